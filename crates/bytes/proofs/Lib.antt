@@ -1,0 +1,5 @@
+pub mod Frames
+pub mod Clips
+pub mod Chunks
+pub mod Index
+pub mod Signs

@@ -1,0 +1,4 @@
+pub mod Memory
+pub mod Fields
+pub mod Digits
+pub mod Lookup
