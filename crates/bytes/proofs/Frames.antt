@@ -5,15 +5,24 @@ use Prim.Native.Nat.{ℕ, _-_, _+_, _*_, _^_, _/_, _%_, _<_, _≤_}
 use native.Mathlib.Omega.{arith}
 use native.Mathlib.Nat.{div-div-eq-div-mul}
 use borrow.Author.Needs.{needs}
-use lib.ListN.{length, take, drop, getD}
+use lib.ListN.{length, take, drop, getD, length-take, length-drop}
 use Rattle.std.proofs.shelf.Lists.{places, same-lists}
 use Rattle.std.proofs.shelf.Bits.{div-add-mod'}
 use lib.IntN.{ℤ}
 use mir.Syntax.{w64}
 use mir.Val.{Fits, SFits, toZ, ofZ}
 use mir.ValLaws.{toZ-ofZ, ofZ-fits}
-use Rattle.bytes.specs.Memory.{portion, written}
+use Rattle.bytes.specs.Memory.{portion, rest, written}
 use Rattle.bytes.specs.Fields.{le2, le4, le8, int8, bytes2, bytes4, bytes8, ints8}
+
+-- how long parts are
+pub length-portion : (m : List ℕ) (at n : ℕ) → at + n ≤ length m → length (portion m at n) ≡ n
+unfolding portion
+length-portion m at n h = simp (length-take, length-drop) (omega arith)
+
+pub length-rest : (m : List ℕ) (n : ℕ) → length (rest m n) ≡ length m - n
+unfolding rest
+length-rest m n = length-drop n m
 
 module _ (m : List ℕ) (at : ℕ) (s : List ℕ) where
   pub length-written : length (written m at s) ≡ length m

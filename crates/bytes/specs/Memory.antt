@@ -3,6 +3,7 @@
 --
 -- The definitions are shut. At a written place or at a width such as 4096 an open `take` or
 -- `replicate` computes step by step, and no law of the lemma files matches any more.
+use mathlib.Core.Path.{_≡_}
 use mathlib.Core.List.{List, _++_}
 use Prim.Native.Nat.{ℕ, _-_, _+_}
 use lib.ListN.{length, take, drop, replicate}
@@ -10,6 +11,10 @@ use lib.ListN.{length, take, drop, replicate}
 -- the n bytes of m from `at` on, fewer where m ends before
 unfoldable pub portion : List ℕ → ℕ → ℕ → List ℕ
 portion m at n = take n (drop at m)
+
+-- all of m but its first n bytes
+unfoldable pub rest : List ℕ → ℕ → List ℕ
+rest m n = drop n m
 
 -- m with s over it from `at` on, as far as s fits
 unfoldable pub written : List ℕ → ℕ → List ℕ → List ℕ
@@ -22,3 +27,14 @@ clip w t = take w t
 -- a text at the front of w bytes, zeros behind
 unfoldable pub padded : ℕ → List ℕ → List ℕ
 padded w t = t ++ replicate (w - length t) 0
+
+-- what a push of `more` behind the first n bytes of a buffer leaves, and the length r that it answers: the text so far is
+-- the first r bytes, clipped to the buffer
+pub record Pushed (before : List ℕ) (n : ℕ) (more : List ℕ) (r : ℕ) (after : List ℕ) : Type 0 where
+  pub len : r ≡ length (clip (length before) (take n before ++ more))
+  pub text : take r after ≡ clip (length before) (take n before ++ more)
+
+-- what a whole text leaves in w bytes: clipped to them, zeros behind
+pub record Placed (w : ℕ) (t : List ℕ) (r : ℕ) (after : List ℕ) : Type 0 where
+  pub len : r ≡ length (clip w t)
+  pub text : after ≡ padded w (clip w t)

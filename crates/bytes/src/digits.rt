@@ -1,18 +1,15 @@
 //! Numbers as text.
 ghost use mathlib.Core.Path.{_≡_};
-ghost use mathlib.Core.List.{_++_};
 ghost use Prim.Native.Nat.{_<_};
-ghost use lib.ListN.{length, take};
 ghost use Rattle.std.specs.Written.{decimal, signed};
 ghost use Rattle.std.specs.shelf.Lists.{joined};
-ghost use Rattle.bytes.specs.Memory.{clip};
+ghost use Rattle.bytes.specs.Memory.{Pushed};
 ghost use Rattle.bytes.specs.Digits.{hexDigit, hexPair};
 use crate::texts::push;
 
 /// The shortest decimal of `x`, behind the text so far.
 pub fn push_decimal(out: &mut [u8], n: usize, x: u64) -> usize
-    ensures len { λ r. ⌜ r ≡ length (clip (length (now (out .entry))) (take n (now (out .entry)) ++ decimal x)) ⌝ }
-    ensures text { λ r. ⌜ take r (now (out .exit)) ≡ clip (length (now (out .entry))) (take n (now (out .entry)) ++ decimal x) ⌝ }
+    ensures { λ r. ⌜ Pushed (now (out .entry)) n (decimal x) r (now (out .exit)) ⌝ }
 {
     if x < 10 {
         return push(out, n, &[48 + x as u8]);
@@ -23,8 +20,7 @@ pub fn push_decimal(out: &mut [u8], n: usize, x: u64) -> usize
 
 /// The shortest decimal of `z` with its sign, behind the text so far.
 pub fn push_signed(out: &mut [u8], n: usize, z: i64) -> usize
-    ensures len { λ r. ⌜ r ≡ length (clip (length (now (out .entry))) (take n (now (out .entry)) ++ signed z)) ⌝ }
-    ensures text { λ r. ⌜ take r (now (out .exit)) ≡ clip (length (now (out .entry))) (take n (now (out .entry)) ++ signed z) ⌝ }
+    ensures { λ r. ⌜ Pushed (now (out .entry)) n (signed z) r (now (out .exit)) ⌝ }
 {
     if z >= 0 {
         return push_decimal(out, n, z.unsigned_abs());
@@ -42,8 +38,7 @@ fn hex_digit(d: u8) -> u8
 
 /// Two hex digits for each byte, behind the text so far.
 pub fn push_hex(out: &mut [u8], n: usize, bytes: &[u8]) -> usize
-    ensures len { λ r. ⌜ r ≡ length (clip (length (now (out .entry))) (take n (now (out .entry)) ++ joined hexPair (now (bytes .entry)))) ⌝ }
-    ensures text { λ r. ⌜ take r (now (out .exit)) ≡ clip (length (now (out .entry))) (take n (now (out .entry)) ++ joined hexPair (now (bytes .entry))) ⌝ }
+    ensures { λ r. ⌜ Pushed (now (out .entry)) n (joined hexPair (now (bytes .entry))) r (now (out .exit)) ⌝ }
 {
     let mut at = push(out, n, b"");
     for b in bytes {

@@ -1,7 +1,7 @@
 //! Parts of memory, and writes into it.
 ghost use mathlib.Core.Path.{_≡_};
-ghost use lib.ListN.{length, take, drop, getD};
-ghost use Rattle.bytes.specs.Memory.{portion, written, padded};
+ghost use lib.ListN.{length, take, getD};
+ghost use Rattle.bytes.specs.Memory.{portion, rest, written, padded};
 
 /// The `n` bytes of `m` from `at` on, fewer where `m` ends before.
 pub fn part(m: &[u8], at: usize, n: usize) -> &[u8]
@@ -12,16 +12,9 @@ pub fn part(m: &[u8], at: usize, n: usize) -> &[u8]
     &m[from..from + len]
 }
 
-/// The first `n` bytes of `m`, or all.
-pub fn front(m: &[u8], n: usize) -> &[u8]
-    ensures { λ r. ⌜ now r ≡ take n (now (m .entry)) ⌝ }
-{
-    if n < m.len() { &m[0..n] } else { m }
-}
-
 /// All of `m` but its first `n` bytes.
 pub fn after(m: &[u8], n: usize) -> &[u8]
-    ensures { λ r. ⌜ now r ≡ drop n (now (m .entry)) ⌝ }
+    ensures { λ r. ⌜ now r ≡ rest (now (m .entry)) n ⌝ }
 {
     if n < m.len() { &m[n..] } else { &m[0..0] }
 }

@@ -1,0 +1,4 @@
+pub mod Scaled
+pub mod Decided
+pub mod Steps
+pub mod Commas

@@ -1,0 +1,7 @@
+pub mod Kinds
+pub mod Atoms
+pub mod Doubles
+pub mod Unicode
+pub mod Format
+pub mod Shown
+pub mod Faults
