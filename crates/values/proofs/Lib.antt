@@ -2,3 +2,5 @@ pub mod Scaled
 pub mod Decided
 pub mod Steps
 pub mod Commas
+pub mod Examples
+pub mod Unclipped

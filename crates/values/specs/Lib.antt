@@ -5,3 +5,4 @@ pub mod Unicode
 pub mod Format
 pub mod Shown
 pub mod Faults
+pub mod Laws

@@ -3,6 +3,7 @@ pub mod check;
 pub mod doubles;
 pub mod elements;
 pub mod kinds;
+pub mod laws;
 pub mod show;
 pub mod utf8;
 pub mod value;

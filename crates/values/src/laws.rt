@@ -1,0 +1,16 @@
+//! Laws of the definitions that the contracts cite. Each function is there for its contract.
+ghost use Rattle.values.specs.Laws.{Checked-is-never-clipped, Worked-examples};
+
+/// A value that passed the check is shown whole: none of its three texts is clipped.
+pub fn checked_is_never_clipped() -> u8
+    ensures { λ _. ⌜ Checked-is-never-clipped ⌝ }
+{
+    0
+}
+
+/// Examples of RFC 3629 and of binary64, of the metric and of an array's text.
+pub fn worked_examples() -> u8
+    ensures { λ _. ⌜ Worked-examples ⌝ }
+{
+    0
+}
