@@ -29,10 +29,11 @@ unfoldable pub padded : ℕ → List ℕ → List ℕ
 padded w t = t ++ replicate (w - length t) 0
 
 -- what a push of `more` behind the first n bytes of a buffer leaves, and the length r that it answers: the text so far is
--- the first r bytes, clipped to the buffer
+-- the first r bytes, clipped to the buffer, and the bytes behind it are as they were
 pub record Pushed (before : List ℕ) (n : ℕ) (more : List ℕ) (r : ℕ) (after : List ℕ) : Type 0 where
   pub len : r ≡ length (clip (length before) (take n before ++ more))
   pub text : take r after ≡ clip (length before) (take n before ++ more)
+  pub behind : drop r after ≡ drop r before
 
 -- what a whole text leaves in w bytes: clipped to them, zeros behind
 pub record Placed (w : ℕ) (t : List ℕ) (r : ℕ) (after : List ℕ) : Type 0 where

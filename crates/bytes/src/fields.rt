@@ -64,26 +64,30 @@ pub fn id_at(m: &[u8], at: usize) -> u64
 pub fn put_u16(m: &mut [u8], at: usize, v: u16)
     ensures { λ _. ⌜ now (m .exit) ≡ written (now (m .entry)) at (bytes2 v) ⌝ }
 {
-    write(m, at, &v.to_le_bytes());
+    let two = v.to_le_bytes();
+    write(m, at, &two);
 }
 
 /// Writes `v` in four bytes at `at`.
 pub fn put_u32(m: &mut [u8], at: usize, v: u32)
     ensures { λ _. ⌜ now (m .exit) ≡ written (now (m .entry)) at (bytes4 v) ⌝ }
 {
-    write(m, at, &v.to_le_bytes());
+    let four = v.to_le_bytes();
+    write(m, at, &four);
 }
 
 /// Writes `v` in eight bytes at `at`.
 pub fn put_u64(m: &mut [u8], at: usize, v: u64)
     ensures { λ _. ⌜ now (m .exit) ≡ written (now (m .entry)) at (bytes8 v) ⌝ }
 {
-    write(m, at, &v.to_le_bytes());
+    let digits = v.to_le_bytes();
+    write(m, at, &digits);
 }
 
 /// Writes the signed `v` in eight bytes at `at`.
 pub fn put_i64(m: &mut [u8], at: usize, v: i64)
     ensures { λ _. ⌜ now (m .exit) ≡ written (now (m .entry)) at (ints8 v) ⌝ }
 {
-    write(m, at, &v.to_le_bytes());
+    let signed = v.to_le_bytes();
+    write(m, at, &signed);
 }

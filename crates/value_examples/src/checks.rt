@@ -1,13 +1,8 @@
 //! What the check accepts and refuses, at each limit.
 use std::test::*;
 use values::check::ValueFault;
-use values::check::is_formed;
-use values::elements::are_readable;
-use values::elements::fill;
 use values::elements::first_element;
-use values::elements::is_readable;
 use values::kinds::ScalarKind;
-use values::kinds::ValueKind;
 use values::utf8::is_text;
 use values::value::Scalar;
 
@@ -77,14 +72,6 @@ fn parts_of_the_check() -> Result<(), Fail> {
     check_eq(ValueFault::Form.number(), 8)?;
     check_eq(ValueFault::NotUtf8.number(), 5)?;
     check_eq(ValueFault::TooLong.number(), 9)?;
-    check(is_formed(ValueKind::Array(ScalarKind::Bool), b"\x00\x01"))?;
-    check(!is_formed(ValueKind::Scalar(ScalarKind::Bool), b"\x00\x01"))?;
-    check(fill(ScalarKind::String, b"\x01\x00a"))?;
-    check(!fill(ScalarKind::String, b"\x01\x00ab"))?;
-    check(are_readable(ScalarKind::String, b"\x01\x00a"))?;
-    check(!are_readable(ScalarKind::String, b"\x01\x00a\x01\x00\x80"))?;
-    check(is_readable(Scalar::I64(4)))?;
-    check(!is_readable(Scalar::String(b"\xed\xa0\x80")))?;
     check(is_text(b"\xf4\x8f\xbf\xbf"))?;
     check(!is_text(b"\xf4\x90\x80\x80"))?;
     check(first_element(ScalarKind::I64, b"1234567").is_none())?;

@@ -53,7 +53,7 @@ fn is_formed_scalar(kind: ScalarKind, bytes: &[u8]) -> bool
 }
 
 /// Whether bytes have the form of a kind, an array in each of its elements.
-pub fn is_formed(kind: ValueKind, bytes: &[u8]) -> bool
+pub(crate) fn is_formed(kind: ValueKind, bytes: &[u8]) -> bool
     ensures { λ r. ⌜ r ≡ formed kind (now (bytes .entry)) ⌝ }
 {
     match kind {

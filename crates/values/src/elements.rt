@@ -70,7 +70,7 @@ pub fn first_element(kind: ScalarKind, bytes: &[u8]) -> Option<Element<'_>>
 }
 
 /// Whether the elements of an array fill its bytes, so that none is broken.
-pub fn fill(kind: ScalarKind, bytes: &[u8]) -> bool
+pub(crate) fn fill(kind: ScalarKind, bytes: &[u8]) -> bool
     ensures { λ r. ⌜ r ≡ eqb (sizesOf (elementsIn kind (now (bytes .entry)))) (length (now (bytes .entry))) ⌝ }
 {
     let mut left = bytes;
@@ -81,7 +81,7 @@ pub fn fill(kind: ScalarKind, bytes: &[u8]) -> bool
 }
 
 /// Whether the texts in a scalar are UTF-8.
-pub fn is_readable(scalar: Scalar<'_>) -> bool
+pub(crate) fn is_readable(scalar: Scalar<'_>) -> bool
     ensures { λ r. ⌜ r ≡ readable (atomOf (scalar .entry)) ⌝ }
 {
     match scalar {
@@ -92,7 +92,7 @@ pub fn is_readable(scalar: Scalar<'_>) -> bool
 }
 
 /// Whether the texts in an array's elements are UTF-8.
-pub fn are_readable(kind: ScalarKind, bytes: &[u8]) -> bool
+pub(crate) fn are_readable(kind: ScalarKind, bytes: &[u8]) -> bool
     ensures { λ r. ⌜ r ≡ allReadable (elementsIn kind (now (bytes .entry))) ⌝ }
 {
     let mut left = bytes;

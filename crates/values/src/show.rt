@@ -80,7 +80,7 @@ fn push_array(out: &mut [u8], n: usize, array: Array<'_>, quotes: bool) -> usize
 }
 
 /// A value's text behind the text so far; the strings of an array in quotes, if asked for.
-pub fn push_value(out: &mut [u8], n: usize, value: Value<'_>, quotes: bool) -> usize
+pub(crate) fn push_value(out: &mut [u8], n: usize, value: Value<'_>, quotes: bool) -> usize
     ensures { λ r. ⌜ Pushed (now (out .entry)) n (datumText quotes (meant (value .entry))) r (now (out .exit)) ⌝ }
 {
     match value {

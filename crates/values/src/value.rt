@@ -43,7 +43,7 @@ pub enum Value<'a> {
 
 impl<'a> Scalar<'a> {
     /// The scalar that `bytes` are as a whole value, whatever they are: a missing byte is 0.
-    pub fn new(kind: ScalarKind, bytes: &'a [u8]) -> Scalar<'a>
+    fn new(kind: ScalarKind, bytes: &'a [u8]) -> Scalar<'a>
         ensures { λ r. ⌜ atomOf r ≡ alone kind (now (bytes .entry)) ⌝ }
     {
         match kind {

@@ -1,6 +1,5 @@
 use borrow.Author.Needs.{needs}
-use mathlib.Core.List.{append-assoc}
-use Rattle.bytes.proofs.Clips.{clip-more}
+use Rattle.bytes.proofs.Clips.{pushed-more}
 use Rattle.bytes.proofs.Signs.{signed-negative, signed-positive}
 use Rattle.bytes.proofs.digits.push_signed.Needs as need
 
@@ -8,4 +7,4 @@ pub returns-then-z-ge0 : need.returns-then-z-ge0
 returns-then-z-ge0 c = search (needs, signed-positive)
 
 pub returns : need.returns
-returns c = search (needs, signed-negative, clip-more, append-assoc)
+returns c = let p = pushed-more _ _ _ _ _ _ _ _ (c .push-n .ensures) (c .push-decimal-2 .ensures) in search (needs, signed-negative)

@@ -1,7 +1,5 @@
-use mathlib.Core.List.{append-assoc}
-use borrow.Author.Needs.{needs}
-use Rattle.bytes.proofs.Clips.{clip-more}
+use Rattle.bytes.proofs.Clips.{pushed-more}
 use Rattle.values.proofs.show.push_item.Needs as need
 
 pub returns : need.returns
-returns c = search (needs, clip-more, append-assoc)
+returns c = pushed-more _ _ _ _ _ _ _ _ (c .push-comma-n .ensures) (c .push-scalar .ensures)
