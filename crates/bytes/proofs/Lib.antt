@@ -3,3 +3,4 @@ pub mod Clips
 pub mod Chunks
 pub mod Index
 pub mod Signs
+pub mod Endian

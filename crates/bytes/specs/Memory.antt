@@ -5,8 +5,12 @@
 -- `replicate` computes step by step, and no law of the lemma files matches any more.
 use mathlib.Core.Path.{_≡_}
 use mathlib.Core.List.{List, _++_}
-use Prim.Native.Nat.{ℕ, _-_, _+_}
-use lib.ListN.{length, take, drop, replicate}
+use Prim.Native.Nat.{ℕ, _-_, _+_, _<_}
+use lib.ListN.{length, take, drop, replicate, getD}
+
+-- each number of the list is a byte
+abbrev pub Bytes : List ℕ → Type 0
+Bytes m = (i : ℕ) → getD m i 0 < 256
 
 -- the n bytes of m from `at` on, fewer where m ends before
 unfoldable pub portion : List ℕ → ℕ → ℕ → List ℕ

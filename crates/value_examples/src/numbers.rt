@@ -5,6 +5,7 @@ use values::doubles::whole_exactly;
 use values::doubles::whole_number;
 use values::kinds::ScalarKind;
 use values::kinds::ValueKind;
+use values::laws::accepted_exactly;
 use values::laws::checked_is_never_clipped;
 use values::laws::worked_examples;
 use values::value::Array;
@@ -76,6 +77,7 @@ fn kinds_by_number() -> Result<(), Fail> {
 #[test]
 fn laws_are_there() -> Result<(), Fail> {
     check_eq(whole_exactly(), 0)?;
+    check_eq(accepted_exactly(), 0)?;
     check_eq(checked_is_never_clipped(), 0)?;
     check_eq(worked_examples(), 0)
 }

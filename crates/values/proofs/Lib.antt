@@ -4,3 +4,5 @@ pub mod Steps
 pub mod Commas
 pub mod Examples
 pub mod Unclipped
+pub mod Readback
+pub mod Writeback

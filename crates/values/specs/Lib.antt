@@ -6,3 +6,4 @@ pub mod Format
 pub mod Shown
 pub mod Faults
 pub mod Laws
+pub mod Encoding
