@@ -5,5 +5,4 @@ use Rattle.bytes.specs.Lookup.{distinct}
 use Rattle.names.specs.Keys.{keys}
 
 pub keys-distinct : distinct keys ≡ true
-unfolding keys
 keys-distinct = refl

@@ -15,9 +15,8 @@ use Rattle.std.proofs.shelf.Lists.{same-lists, length-map, length-set, length-t
 use Rattle.std.proofs.shelf.Tests.{cond-true, cond-false, cases-bool, cases-eq}
 use Rattle.bytes.specs.Lookup.{indexFrom, distinct, Found}
 use Rattle.bytes.proofs.Index.{index-found, looked-up-exactly, same-from}
-use Rattle.names.specs.declared.attribute_keys.AttributeKey.{AttributeKey}
 use Rattle.names.specs.Keys.{keys, keyAt, known}
-use Rattle.names.specs.Places.{orElse, lastFrom, lastPlace}
+use Rattle.names.specs.Places.{orElse, noted, lastFrom, lastPlace}
 use Rattle.names.proofs.Known.{keys-distinct}
 
 else-cond : (b : Bool) (m n : ℕ) (o c : Option ℕ) → m ≡ n → orElse (cond b (Some m) o) c ≡ cond b (Some n) (orElse o c)
@@ -67,28 +66,17 @@ module _ (M : List (List ℕ)) (i : ℕ) (x : List ℕ) (l : i < length M) (at :
   more : take (i + 1) M ≡ take i M ++ x ∷ []
   more = take-more M i [] l ∙ ap (λ y. take i M ++ y ∷ []) at
 
-  places-unknown : (o : Option ℕ) → known x ≡ o → Found x keys o → mapped keyAt o ≡ None → map (λ k. lastPlace k (take (i + 1) M)) keys ≡ map (λ k. lastPlace k (take i M)) keys
-  places-unknown None e f n = ap (λ js. map (λ k. lastPlace k js) keys) more ∙ lasts-unknown keys (take i M) x f
-  places-unknown (Some p) e f n = absurd (let z : _≡_ {A = ℕ} 0 1 = cc in omega arith)
-
-  places-known : (o : Option ℕ) (key : AttributeKey) → known x ≡ o → Found x keys o → mapped keyAt o ≡ Some key → map (λ k. lastPlace k (take (i + 1) M)) keys ≡ set (map (λ k. lastPlace k (take i M)) keys) (key .idx) (Some i)
-  places-known None key e f n = absurd (let z : _≡_ {A = ℕ} 0 1 = cc in omega arith)
-  places-known (Some p) key e f n =
-      let s : keyAt p ≡ key = cc in
-      let k : p ≡ key .idx = ap (λ (a : AttributeKey). a .idx) s in
-      let n : length (take i M) ≡ i = length-take-le i M (omega arith) in
+  lasts-at : (o : Option ℕ) → known x ≡ o → Found x keys o → map (λ k. lastPlace k (take (i + 1) M)) keys ≡ noted (mapped keyAt o) i (map (λ k. lastPlace k (take i M)) keys)
+  lasts-at None e f = ap (λ js. map (λ k. lastPlace k js) keys) more ∙ lasts-unknown keys (take i M) x f
+  lasts-at (Some p) e f =
       ap (λ js. map (λ k. lastPlace k js) keys) more
       ∙ (lasts-known keys (take i M) x p keys-distinct e f
-      ∙ (ap (λ j. set (map (λ k. lastPlace k (take i M)) keys) j (Some (length (take i M)))) k
-      ∙ ap (λ j. set (map (λ k. lastPlace k (take i M)) keys) (key .idx) (Some j)) n))
+      ∙ ap (λ j. set (map (λ k. lastPlace k (take i M)) keys) p (Some j)) (length-take-le i M (omega arith)))
 
-  pub lasts-same : mapped keyAt (known x) ≡ None → map (λ k. lastPlace k (take (i + 1) M)) keys ≡ map (λ k. lastPlace k (take i M)) keys
-  lasts-same n = places-unknown (known x) refl (index-found x keys) n
-
-  pub lasts-more : (key : AttributeKey) → mapped keyAt (known x) ≡ Some key → map (λ k. lastPlace k (take (i + 1) M)) keys ≡ set (map (λ k. lastPlace k (take i M)) keys) (key .idx) (Some i)
-  lasts-more key n = places-known (known x) key refl (index-found x keys) n
+  pub lasts-more : map (λ k. lastPlace k (take (i + 1) M)) keys ≡ noted (mapped keyAt (known x)) i (map (λ k. lastPlace k (take i M)) keys)
+  lasts-more = lasts-at (known x) refl (index-found x keys)
 
 -- before the first text no key has a place
 pub lasts-none : map (λ k. lastPlace k []) keys ≡ replicate 43 None
-unfolding keys lastFrom
+unfolding lastFrom
 lasts-none = refl

@@ -30,7 +30,7 @@ conventionNames =
 abbrev pub samplingRateName : List ℕ
 samplingRateName = codes "_dd1.sr.eausr"
 
-unfoldable pub databaseNames : List (List ℕ)
+abbrev pub databaseNames : List (List ℕ)
 databaseNames =
     codes "other_sql" ∷
     codes "mssql" ∷

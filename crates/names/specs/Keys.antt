@@ -7,7 +7,7 @@ use Rattle.std.specs.declared.option.Option.{Option}
 use Rattle.bytes.specs.Lookup.{indexFrom}
 use Rattle.names.specs.declared.attribute_keys.AttributeKey.{AttributeKey}
 
-unfoldable pub keys : List (List ℕ)
+abbrev pub keys : List (List ℕ)
 keys =
     codes "datadog.service" ∷
     codes "datadog.name" ∷

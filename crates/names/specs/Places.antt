@@ -2,9 +2,16 @@
 use mathlib.Core.List.{List, [], _∷_}
 use mathlib.Core.Bool.{cond}
 use Prim.Native.Nat.{ℕ, suc}
+use lib.ListN.{set}
 use Rattle.std.specs.shelf.Text.{sameBytes}
 use Rattle.std.specs.declared.option.Option.{Option}
 use Rattle.std.specs.declared.option.Option.the-variants.{Some, None}
+use Rattle.names.specs.declared.attribute_keys.AttributeKey.{AttributeKey}
+
+-- the places, with i noted at the place of a key that is known
+abbrev pub noted : Option AttributeKey → ℕ → List (Option ℕ) → List (Option ℕ)
+noted None i places = places
+noted (Some key) i places = set places (key .idx) (Some i)
 
 -- a, or b where a is none
 abbrev pub orElse : Option ℕ → Option ℕ → Option ℕ

@@ -2,9 +2,10 @@
 ghost use mathlib.Core.Path.{_≡_};
 ghost use mathlib.Core.List.{map};
 ghost use lib.ListN.{getD, set, replicate};
+ghost use Rattle.std.specs.Options.{mapped};
 ghost use Rattle.std.specs.declared.option.Option.the-variants.{Some, None};
-ghost use Rattle.names.specs.Keys.{keys};
-ghost use Rattle.names.specs.Places.{lastPlace};
+ghost use Rattle.names.specs.Keys.{keys, keyAt, known};
+ghost use Rattle.names.specs.Places.{lastPlace, noted};
 use crate::attribute_keys::AttributeKey;
 use crate::attribute_keys::NUMBER_OF_ATTRIBUTES;
 use crate::attribute_keys::get_attribute_idx;
@@ -25,8 +26,8 @@ pub impl Default for AttributeIndices as AttributeIndicesDefault {
     }
 }
 
-// Notes `place` at `at`; past the end there is nothing to note.
-fn note(places: &mut [Option<usize>], at: usize, place: usize)
+// Writes `place` at `at`; past the end there is nothing to write.
+fn put(places: &mut [Option<usize>], at: usize, place: usize)
     ensures { λ _. ⌜ now (places .exit) ≡ set (now (places .entry)) at (Some place) ⌝ }
 {
     if at < places.len() {
@@ -39,7 +40,7 @@ impl AttributeIndices {
     pub fn set(&mut self, key: AttributeKey, place: usize)
         ensures { λ _. ⌜ now (self .exit) .places ≡ set (now (self .entry) .places) (key .idx) (Some place) ⌝ }
     {
-        note(&mut self.places, key.place(), place);
+        put(&mut self.places, key.place(), place);
     }
 
     /// Where `key` stands, if it does.
@@ -52,15 +53,22 @@ impl AttributeIndices {
         }
     }
 
+    // Notes that these bytes stand at `place`, if they are a known key's.
+    fn note(&mut self, key: &[u8], place: usize)
+        ensures { λ _. ⌜ now (self .exit) .places ≡ noted (mapped keyAt (known (now (key .entry)))) place (now (self .entry) .places) ⌝ }
+    {
+        if let Some(found) = get_attribute_idx(key) {
+            self.set(found, place);
+        }
+    }
+
     /// Where each known key stands in the list of the attributes' keys: of several places the last.
     pub fn from_keys(attributes: &[&[u8]]) -> AttributeIndices
         ensures { λ r. ⌜ r .places ≡ map (λ k. lastPlace k (map now (now (attributes .entry)))) keys ⌝ }
     {
         let mut indices = AttributeIndices::default();
         for (i, key) in attributes.iter().enumerate() {
-            if let Some(found) = get_attribute_idx(*key) {
-                indices.set(found, i);
-            }
+            indices.note(*key, i);
         }
         indices
     }

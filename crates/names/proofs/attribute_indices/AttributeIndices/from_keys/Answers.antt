@@ -6,10 +6,8 @@ use denote.Ref.{now}
 use lib.ListN.{length, getD}
 use Rattle.std.proofs.shelf.Lists.{length-map, getD-map, take-all}
 use Rattle.names.specs.Keys.{keys}
-use Rattle.names.specs.Places.{lastPlace}
-use Rattle.names.specs.declared.attribute_indices.AttributeIndices.{AttributeIndices}
-use Rattle.names.proofs.Lasts.{lasts-same, lasts-more, lasts-none}
-use Rattle.names.proofs.attribute_indices.AttributeIndices.from_keys.Needs.{in-Some, in-rest}
+use Rattle.names.specs.Places.{lastPlace, noted}
+use Rattle.names.proofs.Lasts.{lasts-more, lasts-none}
 use Rattle.names.proofs.attribute_indices.AttributeIndices.from_keys.Needs as need
 
 pub loop-i-holds : need.loop-i-holds
@@ -21,14 +19,7 @@ loop-i-again c =
     let i = c .loop-i .i in
     let l : i < length texts = omega (arith, length-map (c .args .attributes .now) now) in
     let at = getD-map now (c .args .attributes .now) i _ _ (c .loop-i-test .taken) in
-    elim (c .match-get-attribute-idx .came) [
-      | in-Some w ↦
-          let e = lasts-more texts i _ l at (w .in-Some .found) (sym (w .in-Some .ensures tt)) in
-          ap (λ (a : AttributeIndices). a .places) (w .indices-is) ∙ (w .set .ensures ∙ cc)
-      | in-rest w ↦
-          let e = lasts-same texts i _ l at (sym (w .in-rest .ensures tt)) in
-          ap (λ (a : AttributeIndices). a .places) (w .indices-is) ∙ cc
-    ]
+    c .note .ensures ∙ (ap (noted _ i) (c .loop-i .inv) ∙ sym (lasts-more texts i _ l at))
 
 pub returns : need.returns
 returns c =
