@@ -1,10 +1,5 @@
 //! Examples of the names: known keys and their neighbours, the last of several places, and lower case.
 
-/// How many examples of keys there are: one known, one shorter, one longer, one empty.
-pub fn examples() -> usize {
-    4
-}
-
 #[cfg(test)]
 mod tests {
     use names::attribute_indices::AttributeIndices;
