@@ -73,8 +73,11 @@ module _ (M : List (List ℕ)) (i : ℕ) (x : List ℕ) (l : i < length M) (at :
       ∙ (lasts-known keys (take i M) x p keys-distinct e f
       ∙ ap (λ j. set (map (λ k. lastPlace k (take i M)) keys) p (Some j)) (length-take-le i M (omega arith)))
 
-  pub lasts-more : map (λ k. lastPlace k (take (i + 1) M)) keys ≡ noted (mapped keyAt (known x)) i (map (λ k. lastPlace k (take i M)) keys)
+  lasts-more : map (λ k. lastPlace k (take (i + 1) M)) keys ≡ noted (mapped keyAt (known x)) i (map (λ k. lastPlace k (take i M)) keys)
   lasts-more = lasts-at (known x) refl (index-found x keys)
+
+  pub lasts-noted : (before after : List (Option ℕ)) → before ≡ map (λ k. lastPlace k (take i M)) keys → after ≡ noted (mapped keyAt (known x)) i before → after ≡ map (λ k. lastPlace k (take (i + 1) M)) keys
+  lasts-noted before after e f = f ∙ (ap (noted (mapped keyAt (known x)) i) e ∙ sym lasts-more)
 
 -- before the first text no key has a place
 pub lasts-none : map (λ k. lastPlace k []) keys ≡ replicate 43 None

@@ -1,8 +1,9 @@
 -- Where each known key stands last in a list of texts.
 use mathlib.Core.List.{List, [], _∷_}
 use mathlib.Core.Bool.{cond}
-use Prim.Native.Nat.{ℕ, suc}
-use lib.ListN.{set}
+use mathlib.Core.Path.{_≡_}
+use Prim.Native.Nat.{ℕ, suc, _<_}
+use lib.ListN.{length, getD, set}
 use Rattle.std.specs.shelf.Text.{sameBytes}
 use Rattle.std.specs.declared.option.Option.{Option}
 use Rattle.std.specs.declared.option.Option.the-variants.{Some, None}
@@ -25,3 +26,11 @@ lastFrom i k (x ∷ xs) = orElse (lastFrom (suc i) k xs) (cond (sameBytes x k) (
 
 abbrev pub lastPlace : List ℕ → List (List ℕ) → Option ℕ
 lastPlace k ks = lastFrom 0 k ks
+
+-- what a last place means: the text stands there and nowhere behind it, and there is none just where it stands nowhere
+abbrev pub LastAt : List ℕ → List (List ℕ) → Option ℕ → Type 0
+LastAt k ks None = (j : ℕ) → j < length ks → getD ks j [] ≡ k → ⊥
+LastAt k ks (Some i) = (i < length ks) × (getD ks i [] ≡ k) × ((j : ℕ) → i < j → j < length ks → getD ks j [] ≡ k → ⊥)
+
+abbrev pub Last-exactly : Type 0
+Last-exactly = (k : List ℕ) (ks : List (List ℕ)) → LastAt k ks (lastPlace k ks)

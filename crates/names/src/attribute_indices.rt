@@ -5,7 +5,7 @@ ghost use lib.ListN.{getD, set, replicate};
 ghost use Rattle.std.specs.Options.{mapped};
 ghost use Rattle.std.specs.declared.option.Option.the-variants.{Some, None};
 ghost use Rattle.names.specs.Keys.{keys, keyAt, known};
-ghost use Rattle.names.specs.Places.{lastPlace, noted};
+ghost use Rattle.names.specs.Places.{Last-exactly, lastPlace, noted};
 use crate::attribute_keys::AttributeKey;
 use crate::attribute_keys::NUMBER_OF_ATTRIBUTES;
 use crate::attribute_keys::get_attribute_idx;
@@ -73,3 +73,8 @@ impl AttributeIndices {
         indices
     }
 }
+
+/// What is noted of a key is the last place at which its bytes stand, and nothing just where they stand nowhere.
+pub fn last_exactly()
+    ensures { λ _. ⌜ Last-exactly ⌝ }
+{}

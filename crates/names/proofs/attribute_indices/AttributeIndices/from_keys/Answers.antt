@@ -1,13 +1,13 @@
-use mathlib.Core.Path.{_≡_, sym, ap, _∙_}
+use mathlib.Core.Path.{sym, ap, _∙_}
 use mathlib.Core.List.{map}
 use Prim.Native.Nat.{_<_}
 use native.Mathlib.Omega.{arith}
 use denote.Ref.{now}
-use lib.ListN.{length, getD}
+use lib.ListN.{length}
 use Rattle.std.proofs.shelf.Lists.{length-map, getD-map, take-all}
 use Rattle.names.specs.Keys.{keys}
-use Rattle.names.specs.Places.{lastPlace, noted}
-use Rattle.names.proofs.Lasts.{lasts-more, lasts-none}
+use Rattle.names.specs.Places.{lastPlace}
+use Rattle.names.proofs.Lasts.{lasts-noted, lasts-none}
 use Rattle.names.proofs.attribute_indices.AttributeIndices.from_keys.Needs as need
 
 pub loop-i-holds : need.loop-i-holds
@@ -19,7 +19,7 @@ loop-i-again c =
     let i = c .loop-i .i in
     let l : i < length texts = omega (arith, length-map (c .args .attributes .now) now) in
     let at = getD-map now (c .args .attributes .now) i _ _ (c .loop-i-test .taken) in
-    c .note .ensures ∙ (ap (noted _ i) (c .loop-i .inv) ∙ sym (lasts-more texts i _ l at))
+    lasts-noted texts i _ l at _ _ (c .loop-i .inv) (c .note .ensures)
 
 pub returns : need.returns
 returns c =
