@@ -2,7 +2,6 @@
 use mathlib.Core.List.{List, [], _∷_}
 use Prim.Native.Nat.{ℕ, zero, suc}
 use lib.Chars.{codes}
-use Rattle.std.specs.Options.{mapped}
 use Rattle.std.specs.declared.option.Option.{Option}
 use Rattle.bytes.specs.Lookup.{indexFrom}
 use Rattle.names.specs.declared.attribute_keys.AttributeKey.{AttributeKey}

@@ -1,4 +1,4 @@
-//! The names of the database systems, which the conventions no longer list.
+//! The names of the database systems, which the list of the conventions lacks.
 ghost use mathlib.Core.Path.{_≡_};
 ghost use mathlib.Core.List.{map};
 ghost use Rattle.bytes.specs.Lookup.{indexFrom};
