@@ -1,13 +1,9 @@
 //! Numbers, metrics and kinds.
 use std::test::*;
 use values::doubles::nearest_pattern;
-use values::doubles::whole_exactly;
 use values::doubles::whole_number;
 use values::kinds::ScalarKind;
 use values::kinds::ValueKind;
-use values::laws::accepted_exactly;
-use values::laws::checked_is_never_clipped;
-use values::laws::worked_examples;
 use values::value::Array;
 use values::value::Double;
 use values::value::Scalar;
@@ -72,12 +68,4 @@ fn kinds_by_number() -> Result<(), Fail> {
         check_eq(Value::new(kind, b"").kind().number(), n)?;
     }
     check(ValueKind::from_number(8).is_none())
-}
-
-#[test]
-fn laws_are_there() -> Result<(), Fail> {
-    check_eq(whole_exactly(), 0)?;
-    check_eq(accepted_exactly(), 0)?;
-    check_eq(checked_is_never_clipped(), 0)?;
-    check_eq(worked_examples(), 0)
 }

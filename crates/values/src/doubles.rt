@@ -106,8 +106,6 @@ pub fn nearest_pattern(i: i64) -> u64
 
 /// The law of `whole_number`'s definition: it is z exactly where the double's value is z and z lies
 /// in range.
-pub fn whole_exactly() -> u8
+pub fn whole_exactly()
     ensures { λ _. ⌜ Whole-exactly ⌝ }
-{
-    0
-}
+{}
