@@ -1,2 +1,3 @@
 mod Pieces
 mod Numerals
+mod Readings

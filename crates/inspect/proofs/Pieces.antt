@@ -20,7 +20,7 @@ module _ (b : ℕ) (xs : List ℕ) (n : ℕ) (h : n < length xs) where
       split-at xs n 0 h ∙ (ap (λ x. take n xs ++ x ∷ drop (suc n) xs) e ∙ ap (λ m. take n xs ++ b ∷ drop m xs) s)
 
   -- a part to the end, as code cuts it
-  tail-drops : take (length xs - (n + 1)) (drop (n + 1) xs) ≡ drop (n + 1) xs
+  pub tail-drops : take (length xs - (n + 1)) (drop (n + 1) xs) ≡ drop (n + 1) xs
   tail-drops =
       let l : length (drop (n + 1) xs) ≡ length xs - (n + 1) = length-drop (n + 1) xs in
       take-all (length xs - (n + 1)) (drop (n + 1) xs) (omega arith)

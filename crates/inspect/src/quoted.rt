@@ -1,60 +1,60 @@
 //! Strings in double quotes, with escapes.
+ghost use mathlib.Core.Path.{_≡_};
+ghost use mathlib.Core.List.{_∷_};
 ghost use Prim.Native.Nat.{_<_};
 ghost use lib.ListN.{length};
+ghost use Rattle.std.specs.Of.Vec.{vec-items};
 ghost use Rattle.std.specs.Vec.{made};
+ghost use Rattle.inspect.specs.Strings.{moveOf, ReadsString};
 use crate::fault::LineFault;
 use crate::fault::LineFaultFromRefused;
 use crate::hex;
 use std::alloc::Global;
 
-/// A byte of a string, and what follows it; none at the closing quote.
+/// Where in a string its next byte stands.
 #[derive(Clone, Copy)]
-struct Step<'a> {
-    byte: Option<u8>,
-    rest: &'a [u8],
+enum Place {
+    Plain,
+    /// Behind a backslash.
+    Escape,
+    /// Behind `\x`.
+    High,
+    /// Behind `\x` and this digit.
+    Low(u8),
 }
 
-/// The byte that an escape stands for, after its backslash.
-fn escape(text: &[u8]) -> Result<Step<'_>, LineFault>
-    ensures { λ r. ⌜ made r (λ s. length (now (s .rest)) < length (now (text .entry))) ⌝ }
+/// What a byte of a string's text comes to.
+#[derive(Clone, Copy)]
+enum Move {
+    /// It begins an escape, or goes on with one.
+    Into(Place),
+    /// It ends this byte of the string.
+    Byte(u8),
+    /// It is the closing quote.
+    Close,
+    Wrong(LineFault),
+}
+
+fn step(place: Place, b: u8) -> Move
+    ensures { λ r. ⌜ r ≡ moveOf place b ⌝ }
 {
-    match text {
-        [b'\\', rest @ ..] => Ok(Step {
-            byte: Some(b'\\'),
-            rest,
-        }),
-        [b'"', rest @ ..] => Ok(Step {
-            byte: Some(b'"'),
-            rest,
-        }),
-        [b'n', rest @ ..] => Ok(Step {
-            byte: Some(b'\n'),
-            rest,
-        }),
-        [b'x', high, low, rest @ ..] => match hex::byte(*high, *low) {
-            Some(b) => Ok(Step {
-                byte: Some(b),
-                rest,
-            }),
-            None => Err(LineFault::BadByteEscape),
+    match place {
+        Place::Plain => match b {
+            b'"' => Move::Close,
+            b'\\' => Move::Into(Place::Escape),
+            _ => Move::Byte(b),
         },
-        [b'x', ..] => Err(LineFault::BadByteEscape),
-        _ => Err(LineFault::UnknownEscape),
-    }
-}
-
-/// The next byte of a string, at the front of `text`.
-fn next_step(text: &[u8]) -> Result<Step<'_>, LineFault>
-    ensures { λ r. ⌜ made r (λ s. length (now (s .rest)) < length (now (text .entry))) ⌝ }
-{
-    match text {
-        [] => Err(LineFault::NoQuote),
-        [b'"', rest @ ..] => Ok(Step { byte: None, rest }),
-        [b'\\', rest @ ..] => escape(rest),
-        [b, rest @ ..] => Ok(Step {
-            byte: Some(*b),
-            rest,
-        }),
+        Place::Escape => match b {
+            b'\\' | b'"' => Move::Byte(b),
+            b'n' => Move::Byte(b'\n'),
+            b'x' => Move::Into(Place::High),
+            _ => Move::Wrong(LineFault::UnknownEscape),
+        },
+        Place::High => Move::Into(Place::Low(b)),
+        Place::Low(high) => match hex::byte(high, b) {
+            Some(b) => Move::Byte(b),
+            None => Move::Wrong(LineFault::BadByteEscape),
+        },
     }
 }
 
@@ -66,22 +66,37 @@ pub struct Quoted<'a> {
 }
 
 impl<'a> Quoted<'a> {
+    /// The string whose text follows the opening quote.
+    fn behind_quote(heap: Global, text: &'a [u8]) -> Result<Quoted<'a>, LineFault>
+        ensures reads { λ r. ⌜ made r (λ q. ReadsString (now (text .entry)) (vec-items (q .bytes)) (now (q .rest))) ⌝ }
+        ensures shorter { λ r. ⌜ made r (λ q. length (now (q .rest)) < length (now (text .entry))) ⌝ }
+    {
+        let mut bytes = Vec::new(heap);
+        let mut place = Place::Plain;
+        for (i, b) in text.iter().enumerate() {
+            match step(place, *b) {
+                Move::Into(next) => place = next,
+                Move::Byte(b) => {
+                    bytes.push(b)?;
+                    place = Place::Plain;
+                }
+                Move::Close => {
+                    let rest = &text[i + 1..];
+                    return Ok(Quoted { bytes, rest });
+                }
+                Move::Wrong(fault) => return Err(fault),
+            }
+        }
+        Err(LineFault::NoQuote)
+    }
+
     /// The string in quotes at the front of `text`.
     pub fn parse(heap: Global, text: &'a [u8]) -> Result<Quoted<'a>, LineFault>
         ensures { λ r. ⌜ made r (λ q. length (now (q .rest)) < length (now (text .entry))) ⌝ }
     {
-        let [b'"', rest @ ..] = text else {
-            return Err(LineFault::NoQuote);
-        };
-        let mut bytes = Vec::new(heap);
-        let mut left = rest;
-        loop {
-            let next = next_step(left)?;
-            left = next.rest;
-            match next.byte {
-                Some(b) => bytes.push(b)?,
-                None => return Ok(Quoted { bytes, rest: left }),
-            }
+        match text {
+            [b'"', inside @ ..] => Quoted::behind_quote(heap, inside),
+            _ => Err(LineFault::NoQuote),
         }
     }
 }
