@@ -1,3 +1,4 @@
 pub mod Cuts
+pub mod Faults
 pub mod Hex
 pub mod Strings

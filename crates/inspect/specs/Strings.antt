@@ -1,12 +1,14 @@
 -- Strings in double quotes, byte by byte.
-use mathlib.Core.Path.{_≡_}
 use mathlib.Core.List.{List, [], _∷_, _++_}
-use mathlib.Core.Bool.{cond, _||_}
+use mathlib.Core.Bool.{cond}
 use Prim.Native.Nat.{ℕ}
 use lib.Dec.{eqb}
 use Rattle.std.specs.declared.option.Option.{Option}
 use Rattle.std.specs.declared.option.Option.the-variants.{Some, None}
-use Rattle.inspect.specs.declared.fault.LineFault.the-variants.{UnknownEscape, BadByteEscape}
+use Rattle.std.specs.declared.result.Result.{Result}
+use Rattle.std.specs.declared.result.Result.the-variants.{Ok, Err}
+use Rattle.inspect.specs.declared.fault.LineFault.{LineFault}
+use Rattle.inspect.specs.declared.fault.LineFault.the-variants.{NoQuote, UnknownEscape, BadByteEscape}
 use Rattle.inspect.specs.declared.quoted.Place.{Place}
 use Rattle.inspect.specs.declared.quoted.Place.the-variants.{Plain, Escape, High, Low}
 use Rattle.inspect.specs.declared.quoted.Move.{Move}
@@ -26,10 +28,12 @@ moveOf High b = Into (Low b)
 moveOf (Low h) b = hexMove (more (digitValue h) (digitValue b))
 
 -- a string's bytes and what follows its closing quote, where reading goes on at a place with the bytes so far
-abbrev pub stringFrom : Place → List ℕ → List ℕ → Option (List ℕ × List ℕ)
-stringFrom p out [] = None
+abbrev pub stringFrom : Place → List ℕ → List ℕ → Result (List ℕ × List ℕ) LineFault
+stringFrom p out [] = Err NoQuote
 stringFrom p out (b ∷ bs) =
-    elim (moveOf p b) [ Into q ↦ stringFrom q out bs | Byte c ↦ stringFrom Plain (out ++ c ∷ []) bs | Close ↦ Some (out, bs) | Wrong f ↦ None ]
+    elim (moveOf p b) [ Into q ↦ stringFrom q out bs | Byte c ↦ stringFrom Plain (out ++ c ∷ []) bs | Close ↦ Ok (out, bs) | Wrong f ↦ Err f ]
 
-abbrev pub ReadsString : List ℕ → List ℕ → List ℕ → Type 0
-ReadsString text out rest = stringFrom Plain [] text ≡ Some (out, rest)
+-- the same behind an opening quote
+abbrev pub quotedIn : List ℕ → Result (List ℕ × List ℕ) LineFault
+quotedIn [] = Err NoQuote
+quotedIn (b ∷ bs) = cond (eqb b 34) (stringFrom Plain [] bs) (Err NoQuote)

@@ -1,4 +1,6 @@
 //! Why a line is not read.
+ghost use mathlib.Core.Path.{_≡_};
+ghost use Rattle.inspect.specs.declared.fault.LineFault.the-variants.{NoMemory};
 use std::alloc::AllocError;
 use std::alloc::Refused;
 use std::fmt;
@@ -26,12 +28,16 @@ pub enum LineFault {
 }
 
 pub impl From<AllocError> for LineFault as LineFaultFromAlloc {
+    ghost converts = { λ _ r. r ≡ NoMemory };
+
     fn from(_e: AllocError) -> LineFault {
         LineFault::NoMemory
     }
 }
 
 pub impl<T: Drop> From<Refused<T>> for LineFault as LineFaultFromRefused {
+    ghost converts = { λ _ r. r ≡ NoMemory };
+
     fn from(_e: Refused<T>) -> LineFault {
         LineFault::NoMemory
     }

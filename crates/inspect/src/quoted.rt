@@ -1,11 +1,15 @@
 //! Strings in double quotes, with escapes.
 ghost use mathlib.Core.Path.{_≡_};
-ghost use mathlib.Core.List.{_∷_};
+ghost use mathlib.Core.List.{[]};
 ghost use Prim.Native.Nat.{_<_};
 ghost use lib.ListN.{length};
 ghost use Rattle.std.specs.Of.Vec.{vec-items};
 ghost use Rattle.std.specs.Vec.{made};
-ghost use Rattle.inspect.specs.Strings.{moveOf, ReadsString};
+ghost use Rattle.std.specs.Results.{Cases};
+ghost use Rattle.std.specs.declared.result.Result.the-variants.{Ok, Err};
+ghost use Rattle.inspect.specs.declared.quoted.Place.the-variants.{Plain};
+ghost use Rattle.inspect.specs.Faults.{OrMemory};
+ghost use Rattle.inspect.specs.Strings.{moveOf, stringFrom, quotedIn};
 use crate::fault::LineFault;
 use crate::fault::LineFaultFromRefused;
 use crate::hex;
@@ -68,7 +72,7 @@ pub struct Quoted<'a> {
 impl<'a> Quoted<'a> {
     /// The string whose text follows the opening quote.
     fn behind_quote(heap: Global, text: &'a [u8]) -> Result<Quoted<'a>, LineFault>
-        ensures reads { λ r. ⌜ made r (λ q. ReadsString (now (text .entry)) (vec-items (q .bytes)) (now (q .rest))) ⌝ }
+        ensures reads { λ r. ⌜ Cases r (λ q. stringFrom Plain [] (now (text .entry)) ≡ Ok (vec-items (q .bytes), now (q .rest))) (λ f. OrMemory f (stringFrom Plain [] (now (text .entry)) ≡ Err f)) ⌝ }
         ensures shorter { λ r. ⌜ made r (λ q. length (now (q .rest)) < length (now (text .entry))) ⌝ }
     {
         let mut bytes = Vec::new(heap);
@@ -92,11 +96,15 @@ impl<'a> Quoted<'a> {
 
     /// The string in quotes at the front of `text`.
     pub fn parse(heap: Global, text: &'a [u8]) -> Result<Quoted<'a>, LineFault>
-        ensures { λ r. ⌜ made r (λ q. length (now (q .rest)) < length (now (text .entry))) ⌝ }
+        ensures reads { λ r. ⌜ Cases r (λ q. quotedIn (now (text .entry)) ≡ Ok (vec-items (q .bytes), now (q .rest))) (λ f. OrMemory f (quotedIn (now (text .entry)) ≡ Err f)) ⌝ }
+        ensures shorter { λ r. ⌜ made r (λ q. length (now (q .rest)) < length (now (text .entry))) ⌝ }
     {
-        match text {
-            [b'"', inside @ ..] => Quoted::behind_quote(heap, inside),
-            _ => Err(LineFault::NoQuote),
+        let Some((first, inside)) = text.split_first() else {
+            return Err(LineFault::NoQuote);
+        };
+        if *first != b'"' {
+            return Err(LineFault::NoQuote);
         }
+        Quoted::behind_quote(heap, inside)
     }
 }
