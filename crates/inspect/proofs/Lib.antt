@@ -1,3 +1,4 @@
+mod Encodings
 mod Pieces
 mod Numerals
 mod Readings

@@ -1,24 +1,34 @@
 //! Values as they are written, put into the bytes of their kind.
+ghost use mathlib.Core.Path.{_≡_};
+ghost use mathlib.Core.List.{_++_};
 ghost use Prim.Native.Nat.{_<_};
 ghost use lib.ListN.{length};
+ghost use Rattle.std.specs.Of.Vec.{vec-items};
 ghost use Rattle.std.specs.Slices.{found};
 ghost use Rattle.std.specs.Vec.{made};
+ghost use Rattle.bytes.specs.Fields.{bytes2};
+ghost use Rattle.inspect.specs.Scalars.{boolIn, WritesDouble};
 use crate::cut::cut;
 use crate::fault::LineFault;
 use crate::fault::LineFaultFromAlloc;
 use crate::fault::LineFaultFromRefused;
 use crate::hex;
 use crate::quoted::Quoted;
+use bytes::tables::same;
 use std::alloc::Global;
 use std::str::from_utf8;
 use values::kinds::ScalarKind;
 use values::kinds::ValueKind;
 
-fn bool_of(text: &[u8]) -> Result<u8, LineFault> {
-    match text {
-        b"true" => Ok(1),
-        b"false" => Ok(0),
-        _ => Err(LineFault::NotBool),
+fn bool_of(text: &[u8]) -> Result<u8, LineFault>
+    ensures { λ r. ⌜ r ≡ boolIn (now (text .entry)) ⌝ }
+{
+    if same(text, b"true") {
+        Ok(1)
+    } else if same(text, b"false") {
+        Ok(0)
+    } else {
+        Err(LineFault::NotBool)
     }
 }
 
@@ -39,7 +49,9 @@ struct WrittenDouble<'a> {
     text: &'a [u8],
 }
 
-fn double_of(text: &[u8]) -> Result<WrittenDouble<'_>, LineFault> {
+fn double_of(text: &[u8]) -> Result<WrittenDouble<'_>, LineFault>
+    ensures { λ r. ⌜ made r (λ d. WritesDouble (now (text .entry)) (d .pattern) (now (d .text))) ⌝ }
+{
     let (digits, text) = cut(text, b':');
     let Some(pattern) = hex::pattern(digits) else {
         return Err(LineFault::BadPattern);
@@ -51,7 +63,9 @@ fn double_of(text: &[u8]) -> Result<WrittenDouble<'_>, LineFault> {
 }
 
 /// A text behind its length in two bytes.
-fn push_sized(out: &mut Vec<u8>, text: &[u8]) -> Result<(), LineFault> {
+fn push_sized(out: &mut Vec<u8>, text: &[u8]) -> Result<(), LineFault>
+    ensures { λ r. ⌜ made r (λ _. vec-items (now (out .exit)) ≡ vec-items (now (out .entry)) ++ (bytes2 (length (now (text .entry))) ++ now (text .entry))) ⌝ }
+{
     let Ok(len) = u16::try_from(text.len()) else {
         return Err(LineFault::LongText);
     };

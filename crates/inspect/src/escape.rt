@@ -1,5 +1,8 @@
 //! Texts as they are printed: one line of valid UTF-8, whatever bytes they have.
-ghost use Prim.Native.Nat.{_≤_};
+ghost use mathlib.Core.Bool.{_&&_, _||_};
+ghost use mathlib.Core.Path.{_≡_};
+ghost use Prim.Native.Nat.{_<_, _≤_};
+ghost use lib.Dec.{leb, ltb, eqb};
 ghost use lib.ListN.{length};
 use std::fmt;
 use std::str::from_utf8;
@@ -13,13 +16,17 @@ const PRINTED: usize = 72;
 pub struct Escaped<'a>(pub &'a [u8]);
 
 /// Whether a byte stands inside of a character of UTF-8.
-fn continues(b: u8) -> bool {
+fn continues(b: u8) -> bool
+    ensures { λ r. ⌜ r ≡ leb 128 b && ltb b 192 ⌝ }
+{
     b >= 0x80 && b < 0xc0
 }
 
 /// Where to cut a text of over 72 bytes, so that no character is split.
 fn printed_len(text: &[u8]) -> usize
-    ensures { λ r. ⌜ r ≤ length (now (text .entry)) ⌝ }
+    ensures within { λ r. ⌜ r ≤ length (now (text .entry)) ⌝ }
+    ensures short { λ r. ⌜ (length (now (text .entry)) ≤ 72 → r ≡ length (now (text .entry))) ⌝ }
+    ensures long { λ r. ⌜ (72 < length (now (text .entry)) → (69 ≤ r) × (r ≤ 72)) ⌝ }
 {
     if text.len() <= PRINTED {
         return text.len();
@@ -43,8 +50,15 @@ fn write_escape<W: fmt::Write>(f: &mut fmt::Formatter<W>, b: u8) -> fmt::Result 
     }
 }
 
+/// Whether a character is printed by its bytes: a control character or a backslash.
+fn is_escaped(c: char) -> bool
+    ensures { λ r. ⌜ r ≡ ltb c 32 || (leb 127 c && ltb c 160) || eqb c 92 ⌝ }
+{
+    c < ' ' || (c >= '\x7f' && c < '\u{a0}') || c == '\\'
+}
+
 fn write_char<W: fmt::Write>(f: &mut fmt::Formatter<W>, c: char) -> fmt::Result {
-    if !c.is_control() && c != '\\' {
+    if !is_escaped(c) {
         return f.write_char(c);
     }
     let mut buffer = [0u8; 4];

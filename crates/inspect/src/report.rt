@@ -3,8 +3,7 @@ use crate::escape::Escaped;
 use crate::escape::EscapedDisplay;
 use crate::fault::LineFault;
 use crate::fault::LineFaultDisplay;
-use crate::notation::KindName;
-use crate::notation::KindNameDisplay;
+use crate::notation::kind_name;
 use names::attribute_keys::get_attribute_idx;
 use std::fmt;
 use std::fmt::Display;
@@ -34,6 +33,15 @@ fn write_known<W: fmt::Write>(f: &mut fmt::Formatter<W>, key: &[u8]) -> fmt::Res
     match place_of(key) {
         Some(place) => write_row(f, "known", format_args!("yes, at place {place}")),
         None => write_row(f, "known", "no"),
+    }
+}
+
+fn write_kind<W: fmt::Write>(f: &mut fmt::Formatter<W>, number: u8) -> fmt::Result {
+    let name = kind_name(number);
+    if name.is_empty() {
+        write_row(f, "kind", format_args!("none has the number {number}"))
+    } else {
+        write_row(f, "kind", Escaped(name))
     }
 }
 
@@ -91,7 +99,7 @@ pub impl fmt::Display for Report<'_> as ReportDisplay {
         let key = Escaped(self.key);
         writeln!(f, "line {number:<11} {key}")?;
         write_known(f, self.key)?;
-        write_row(f, "kind", KindName(self.kind))?;
+        write_kind(f, self.kind)?;
         match self.outcome {
             Ok(value) => {
                 write_texts(f, &value)?;
