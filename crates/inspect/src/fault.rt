@@ -5,7 +5,7 @@ use std::alloc::AllocError;
 use std::alloc::Refused;
 use std::fmt;
 
-#[derive(Clone, Copy, PartialEq, Eq, Debug)]
+#[derive(Clone, Copy)]
 pub enum LineFault {
     NoKind,
     UnknownKind,
