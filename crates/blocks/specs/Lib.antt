@@ -1,0 +1,4 @@
+pub mod Lists
+pub mod Layout
+pub mod Faults
+pub mod First
