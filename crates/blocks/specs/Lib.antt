@@ -2,3 +2,4 @@ pub mod Lists
 pub mod Layout
 pub mod Faults
 pub mod First
+pub mod Facts
