@@ -3,3 +3,4 @@ pub mod Layout
 pub mod Faults
 pub mod First
 pub mod Facts
+pub mod Answers

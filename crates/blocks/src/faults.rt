@@ -3,6 +3,7 @@
 ghost use mathlib.Core.Path.{_≡_};
 ghost use Rattle.blocks.specs.declared.faults.RowFault.the-variants.{Value};
 ghost use Rattle.blocks.specs.declared.faults.BlockFault.the-variants.{Text, Row};
+ghost use Rattle.blocks.specs.Answers.{textNumber, rowNumber, rowPart, blockNumber, faultyRow, blockPart};
 use values::check::ValueFault;
 use values::check::ValueFaultDebug;
 use values::check::ValueFaultPartialEq;
@@ -74,5 +75,79 @@ pub impl From<RowAt> for BlockFault as BlockFaultFromRow {
 
     fn from(f: RowAt) -> BlockFault {
         BlockFault::Row(f)
+    }
+}
+
+impl TextFault {
+    /// The number under which this fault is answered.
+    pub fn number(self) -> u8
+        ensures { λ r. ⌜ r ≡ textNumber self ⌝ }
+    {
+        match self {
+            TextFault::Place => 4,
+            TextFault::NotUtf8 => 5,
+        }
+    }
+}
+
+impl RowFault {
+    /// The number under which this fault is answered.
+    pub fn number(self) -> u8
+        ensures { λ r. ⌜ r ≡ rowNumber self ⌝ }
+    {
+        match self {
+            RowFault::List => 6,
+            RowFault::Key => 7,
+            RowFault::KeyNotUtf8 => 5,
+            RowFault::Value(fault) => fault.number(),
+            RowFault::Twice => 10,
+        }
+    }
+
+    /// The part of the row that it is about: 2 its list or key, 3 its value.
+    pub fn part(self) -> u8
+        ensures { λ r. ⌜ r ≡ rowPart self ⌝ }
+    {
+        match self {
+            RowFault::Value(_) => 3,
+            _ => 2,
+        }
+    }
+}
+
+impl BlockFault {
+    /// The number under which this fault is answered.
+    pub fn number(self) -> u8
+        ensures { λ r. ⌜ r ≡ blockNumber self ⌝ }
+    {
+        match self {
+            BlockFault::Length => 1,
+            BlockFault::Header => 2,
+            BlockFault::Layout => 3,
+            BlockFault::Text(fault) => fault.number(),
+            BlockFault::Row(at) => at.fault.number(),
+        }
+    }
+
+    /// The number of the row that it is about, 65535 for none.
+    pub fn row(self) -> u16
+        ensures { λ r. ⌜ r ≡ faultyRow self ⌝ }
+    {
+        match self {
+            BlockFault::Row(at) => at.row,
+            _ => 65535,
+        }
+    }
+
+    /// The part of the block that it is about: 0 the block, 1 a header text, 2 a row's list or key, 3 its
+    /// value.
+    pub fn part(self) -> u8
+        ensures { λ r. ⌜ r ≡ blockPart self ⌝ }
+    {
+        match self {
+            BlockFault::Text(_) => 1,
+            BlockFault::Row(at) => at.fault.part(),
+            _ => 0,
+        }
     }
 }

@@ -2,12 +2,12 @@
 ghost use mathlib.Core.Path.{_≡_};
 ghost use Rattle.std.specs.Results.{errPart};
 ghost use Rattle.blocks.specs.Faults.{frameFault, headerOk, layoutOk, within, textFault, textsFault};
-use bytes::fields::u16_at;
-use bytes::fields::u32_at;
-use bytes::memory::byte;
 use crate::faults::BlockFault;
 use crate::faults::TextFault;
 use crate::layout::text;
+use bytes::fields::u16_at;
+use bytes::fields::u32_at;
+use bytes::memory::byte;
 use values::utf8::is_text;
 
 /// The shortest and the longest block.

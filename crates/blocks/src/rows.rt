@@ -7,9 +7,6 @@ ghost use lib.Dec.{leb};
 ghost use Rattle.blocks.specs.Layout.{rawOf, rowAt, rowPlace, rowsIn, usedIn};
 ghost use Rattle.blocks.specs.Faults.{leastKey, longestKey, eventValue, linkValue, attributeValue, keyFault, listIn, rowValue, resourceKey, said, twiceFault, contentFault, aboves, rowFault, rowAtFault};
 ghost use Rattle.blocks.specs.First.{firstFrom};
-use bytes::fields::u16_at;
-use bytes::fields::u32_at;
-use bytes::tables::same;
 use crate::counts::Counts;
 use crate::counts::count_row;
 use crate::counts::is_list_refused;
@@ -22,6 +19,9 @@ use crate::layout::raw_row;
 use crate::layout::text;
 use crate::lists::List;
 use crate::lists::ListPartialEq;
+use bytes::fields::u16_at;
+use bytes::fields::u32_at;
+use bytes::tables::same;
 use values::check::ValueFault;
 use values::check::check;
 use values::utf8::is_text;
@@ -82,7 +82,11 @@ fn check_event(row: &RawRow) -> Result<(), ValueFault>
 fn check_link(block: &[u8], row: &RawRow) -> Result<(), ValueFault>
     ensures { λ r. ⌜ errPart r ≡ linkValue (now (block .entry)) (rawOf (now (row .entry))) ⌝ }
 {
-    if row.kind != 0 || row.time != 0 || row.value_length != LINK_BYTES || !is_value_within(block, row) {
+    if row.kind != 0
+        || row.time != 0
+        || row.value_length != LINK_BYTES
+        || !is_value_within(block, row)
+    {
         return Err(ValueFault::Form);
     }
     Ok(())

@@ -9,11 +9,6 @@ ghost use Rattle.bytes.specs.Fields.{u32In};
 ghost use Rattle.blocks.specs.Faults.{blockFault};
 ghost use Rattle.blocks.specs.Layout.{rowsIn};
 ghost use Rattle.blocks.specs.Facts.{facts, headerText, rowFact, factOf};
-use bytes::fields::i64_at;
-use bytes::fields::id_at;
-use bytes::fields::u16_at;
-use bytes::fields::u32_at;
-use bytes::memory::byte;
 use crate::faults::BlockFault;
 use crate::faults::BlockFaultFromRow;
 use crate::faults::BlockFaultFromText;
@@ -25,6 +20,11 @@ use crate::row::row_at;
 use crate::rows::check_rows;
 use crate::span_kind::SpanKind;
 use crate::span_kind::StatusCode;
+use bytes::fields::i64_at;
+use bytes::fields::id_at;
+use bytes::fields::u16_at;
+use bytes::fields::u32_at;
+use bytes::memory::byte;
 
 /// An ended span, over the block that holds it.
 #[derive(Clone, Copy)]
