@@ -29,10 +29,10 @@ abbrev pub lengthFault : List ℕ → Option BlockFault
 lengthFault m = cond (ltb (length m) 120) (Some Length) (cond (ltb 65536 (length m)) (Some Length) None)
 
 abbrev pub headerOk : List ℕ → Bool
-headerOk m = eqb (versionIn m) 1 && leb 1 (kindIn m) && leb (kindIn m) 5 && leb (statusIn m) 2 && eqb (stateIn m) 1 && eqb (getD m 77 0) 0 && eqb (getD m 78 0) 0 && eqb (getD m 79 0) 0
+headerOk m = eqb (versionIn m) 1 && (leb 1 (kindIn m) && (leb (kindIn m) 5 && (leb (statusIn m) 2 && (eqb (stateIn m) 1 && (eqb (getD m 77 0) 0 && (eqb (getD m 78 0) 0 && eqb (getD m 79 0) 0))))))
 
 abbrev pub layoutOk : List ℕ → Bool
-layoutOk m = leb (capacityIn m) 1024 && leb (rowsIn m) (capacityIn m) && eqb (offsetIn m) (120 + 24 * capacityIn m) && leb (offsetIn m + usedIn m) (length m)
+layoutOk m = leb (capacityIn m) 1024 && (leb (rowsIn m) (capacityIn m) && (eqb (offsetIn m) (120 + 24 * capacityIn m) && leb (offsetIn m + usedIn m) (length m)))
 
 abbrev pub frameFault : List ℕ → Option BlockFault
 frameFault m = orElse (lengthFault m) (cond (headerOk m) (cond (layoutOk m) None (Some Layout)) (Some Header))
@@ -105,10 +105,10 @@ zeroTime (pos (suc n)) = false
 zeroTime (negsuc n) = false
 
 abbrev pub eventValue : Row → Option ValueFault
-eventValue r = cond (eqb (r .kind) 0 && eqb (r .valueLength) 0 && eqb (r .valuePlace) 0) None (Some Form)
+eventValue r = cond (eqb (r .kind) 0 && (eqb (r .valueLength) 0 && eqb (r .valuePlace) 0)) None (Some Form)
 
 abbrev pub linkValue : List ℕ → Row → Option ValueFault
-linkValue m r = cond (eqb (r .kind) 0 && zeroTime (r .time) && eqb (r .valueLength) 25 && leb (r .valuePlace + r .valueLength) (usedIn m)) None (Some Form)
+linkValue m r = cond (eqb (r .kind) 0 && (zeroTime (r .time) && (eqb (r .valueLength) 25 && leb (r .valuePlace + r .valueLength) (usedIn m)))) None (Some Form)
 
 abbrev pub attributeValue : List ℕ → Row → Option ValueFault
 attributeValue m r = cond (zeroTime (r .time) && leb (r .valuePlace + r .valueLength) (usedIn m)) (valueFault (r .kind) (textIn m (r .valuePlace) (r .valueLength))) (Some Form)

@@ -4,3 +4,4 @@ pub mod Faults
 pub mod First
 pub mod Facts
 pub mod Answers
+pub mod Lawful

@@ -7,6 +7,7 @@ ghost use Rattle.std.specs.declared.option.Option.the-variants.{Some, None};
 ghost use Rattle.std.specs.Options.{mapped};
 ghost use Rattle.bytes.specs.Fields.{u32In};
 ghost use Rattle.blocks.specs.Faults.{blockFault};
+ghost use Rattle.blocks.specs.Lawful.{Lawful};
 ghost use Rattle.blocks.specs.Layout.{rowsIn};
 ghost use Rattle.blocks.specs.Facts.{facts, headerText, rowFact, factOf};
 use crate::faults::BlockFault;
@@ -34,7 +35,7 @@ pub struct SdkSpan<'a> {
 
 /// The ended span in a block, or the first fault: of the block as a whole, of its header texts, of its
 /// rows.
-pub fn open(block: &[u8]) -> Result<SdkSpan<'_>, BlockFault>
+fn checked(block: &[u8]) -> Result<SdkSpan<'_>, BlockFault>
     ensures fault { λ r. ⌜ errPart r ≡ blockFault (now (block .entry)) ⌝ }
     ensures span { λ r. ⌜ Cases r (λ s. now (s .block) ≡ now (block .entry)) (λ _. Unit {0}) ⌝ }
 {
@@ -42,6 +43,16 @@ pub fn open(block: &[u8]) -> Result<SdkSpan<'_>, BlockFault>
     check_texts(block)?;
     check_rows(block)?;
     Ok(SdkSpan { block })
+}
+
+/// Opens a block: the ended span in it, or the first fault in the order of the checks. Accepted are just
+/// the lawful blocks.
+pub fn open(block: &[u8]) -> Result<SdkSpan<'_>, BlockFault>
+    ensures fault { λ r. ⌜ errPart r ≡ blockFault (now (block .entry)) ⌝ }
+    ensures span { λ r. ⌜ Cases r (λ s. now (s .block) ≡ now (block .entry)) (λ _. Unit {0}) ⌝ }
+    ensures lawful { λ r. ⌜ Cases r (λ _. Lawful (now (block .entry))) (λ _. (Lawful (now (block .entry)) → ⊥)) ⌝ }
+{
+    checked(block)
 }
 
 /// A text of the header, by where its place and length stand.
