@@ -2,7 +2,13 @@
 ghost use mathlib.Core.Path.{_≡_};
 ghost use Prim.Native.Nat.{_<_};
 ghost use Rattle.std.specs.Slices.{found};
+ghost use mathlib.Core.List.{[]};
+ghost use Rattle.std.specs.Of.Vec.{vec-items};
+ghost use Rattle.std.specs.Results.{Cases};
+ghost use Rattle.std.specs.declared.result.Result.the-variants.{Ok, Err};
+ghost use Rattle.open_blocks.specs.declared.hex.Place.the-variants.{First};
 ghost use Rattle.open_blocks.specs.Hex.{digitValue, pairValue};
+ghost use Rattle.open_blocks.specs.Reading.{digitMove, moveOf, bytesFrom, OrMemory};
 use crate::fault::LineFault;
 use crate::fault::LineFaultFromRefused;
 use std::alloc::Global;
@@ -28,29 +34,68 @@ fn pair(high: u8, low: u8) -> Option<u8>
     Some(digit(high)? * 16 + digit(low)?)
 }
 
-/// The bytes of pairs of hex digits; spaces between digits count for nothing.
-pub fn read_bytes(heap: Global, digits: &[u8]) -> Result<Vec<u8>, LineFault> {
+/// Where in a byte's digits the next one stands.
+#[derive(Clone, Copy)]
+enum Place {
+    First,
+    /// Behind this digit.
+    Second(u8),
+}
+
+/// What one more character comes to.
+#[derive(Clone, Copy)]
+enum Move {
+    Into(Place),
+    /// It ends this byte.
+    Byte(u8),
+    Wrong(LineFault),
+}
+
+fn digit_move(place: Place, b: u8) -> Move
+    ensures { λ r. ⌜ r ≡ digitMove place b ⌝ }
+{
+    match place {
+        Place::First => match digit(b) {
+            Some(_) => Move::Into(Place::Second(b)),
+            None => Move::Wrong(LineFault::NotHex),
+        },
+        Place::Second(first) => match pair(first, b) {
+            Some(b) => Move::Byte(b),
+            None => Move::Wrong(LineFault::NotHex),
+        },
+    }
+}
+
+fn step(place: Place, b: u8) -> Move
+    ensures { λ r. ⌜ r ≡ moveOf place b ⌝ }
+{
+    if b == b' ' {
+        Move::Into(place)
+    } else {
+        digit_move(place, b)
+    }
+}
+
+/// The bytes of pairs of hex digits; spaces count for nothing.
+pub fn read_bytes(heap: Global, digits: &[u8]) -> Result<Vec<u8>, LineFault>
+    ensures { λ r. ⌜ Cases r (λ v. bytesFrom First [] (now (digits .entry)) ≡ Ok (vec-items v)) (λ f. OrMemory f (bytesFrom First [] (now (digits .entry)) ≡ Err f)) ⌝ }
+{
     let mut out = Vec::new(heap);
-    let mut first = None;
+    let mut place = Place::First;
     for b in digits {
-        if *b == b' ' {
-            continue;
-        }
-        if digit(*b).is_none() {
-            return Err(LineFault::NotHex);
-        }
-        match first {
-            None => first = Some(*b),
-            Some(high) => {
-                out.push(pair(high, *b).ok_or(LineFault::NotHex)?)?;
-                first = None;
+        match step(place, *b) {
+            Move::Into(next) => place = next,
+            Move::Byte(b) => {
+                out.push(b)?;
+                place = Place::First;
             }
+            Move::Wrong(fault) => return Err(fault),
         }
     }
-    if first.is_some() {
-        return Err(LineFault::OddHex);
+    match place {
+        Place::First => Ok(out),
+        Place::Second(_) => Err(LineFault::OddHex),
     }
-    Ok(out)
 }
 
 /// Bytes to print as hex digits.

@@ -1,11 +1,14 @@
 //! The lines of the input.
-ghost use Prim.Native.Nat.{_≤_};
-ghost use lib.ListN.{length};
+ghost use mathlib.Core.Path.{_≡_};
+ghost use Prim.Native.Nat.{ℕ, _<_, _≤_};
+ghost use lib.ListN.{length, getD};
 ghost use denote.Ref.{now};
 
 /// Where the first newline stands, or the text's length.
 fn line_len(text: &[u8]) -> usize
-    ensures { λ r. ⌜ r ≤ length (now (text .entry)) ⌝ }
+    ensures within { λ r. ⌜ r ≤ length (now (text .entry)) ⌝ }
+    ensures before { λ r. ⌜ ((k : ℕ) → k < r → getD (now (text .entry)) k 0 ≡ 10 → ⊥) ⌝ }
+    ensures found { λ r. ⌜ (r < length (now (text .entry)) → getD (now (text .entry)) r 0 ≡ 10) ⌝ }
 {
     for (i, b) in text.iter().enumerate() {
         if *b == b'\n' {
