@@ -3,7 +3,6 @@
 mod attribute;
 mod cut;
 mod element;
-mod escape;
 mod fault;
 mod hex;
 mod notation;

@@ -1,9 +1,9 @@
 //! What is printed of a line: a label and a value in each row.
-use crate::escape::Escaped;
-use crate::escape::EscapedDisplay;
 use crate::fault::LineFault;
 use crate::fault::LineFaultDisplay;
 use crate::notation::kind_name;
+use escape::Escaped;
+use escape::EscapedDisplay;
 use names::attribute_keys::get_attribute_idx;
 use std::fmt;
 use std::fmt::Display;

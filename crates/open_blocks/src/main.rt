@@ -1,6 +1,5 @@
 //! Opens blocks: reads one a line from standard input, as hex digits, and prints what it holds or why
 //! it is refused. With the argument `count` it prints only how many blocks were accepted and refused.
-mod escape;
 mod fault;
 mod hex;
 mod lines;

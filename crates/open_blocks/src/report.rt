@@ -1,11 +1,11 @@
 //! What is printed of a line: a label and a value in each row.
-use crate::escape::Escaped;
-use crate::escape::EscapedDisplay;
 use crate::fault::LineFault;
 use crate::fault::LineFaultDisplay;
 use crate::words::span_kind_word;
 use crate::words::status_word;
 use blocks::sdk_span::SdkSpan;
+use escape::Escaped;
+use escape::EscapedDisplay;
 use std::fmt;
 use std::fmt::Display;
 

@@ -1,6 +1,4 @@
 //! What is printed of a row: its number, list and key in columns, and what its list gives it.
-use crate::escape::Escaped;
-use crate::escape::EscapedDisplay;
 use crate::hex::Hex;
 use crate::hex::HexDisplay;
 use crate::words::list_word;
@@ -8,6 +6,8 @@ use crate::words::value_kind_word;
 use blocks::lists::List;
 use blocks::row::Row;
 use blocks::sdk_span::SdkSpan;
+use escape::Escaped;
+use escape::EscapedDisplay;
 use std::error::AnyError;
 use std::fmt;
 use values::kinds::ValueKind;
