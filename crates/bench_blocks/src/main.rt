@@ -8,7 +8,7 @@ use std::error::AnyError;
 use std::time::Instant;
 
 /// A block of so many attributes in each of its three plain lists, with keys of equal length that
-/// differ in their last two bytes alone, so that comparing them is as slow as it can be.
+/// differ in their last two bytes alone, so that each comparison goes to the end.
 #[derive(Clone, Copy)]
 struct Shape {
     name: &'static str,
