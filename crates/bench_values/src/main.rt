@@ -1,6 +1,8 @@
 //! How long the check and the display text of a value take. The cases and what they add up to go to
 //! standard output, which is compared; the times go to standard error, since they differ from run to
 //! run.
+#![tactic(auto)]
+
 use std::alloc::{AllocError, Global};
 use std::time::Instant;
 use values::check::check;

@@ -1,6 +1,6 @@
 //! Examples of blocks, opened and refused at each limit.
-#[cfg(test)]
-mod items;
+#![tactic(auto)]
+
 #[cfg(test)]
 mod limits;
 #[cfg(test)]

@@ -1,7 +1,7 @@
 //! Blocks made for the tests.
+use blocks::sdk_span::open;
 use lent_bytes::fields::{put_u16, put_u32};
 use lent_bytes::memory::write;
-use opening::open::open;
 
 /// A lawful header for `rows` rows, a capacity of as many, and `used` bytes of text.
 pub fn put_header(m: &mut [u8], rows: u16, used: u32) {

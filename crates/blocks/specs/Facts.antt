@@ -1,6 +1,5 @@
 -- The facts of a block: what its header and its rows say. They are defined on any bytes.
-use Rattle.std.specs.Prelude.{ℕ, ◌+◌, cond, List, [], ◌∷◌, map, ℤ, Some, None, Option, ◌==◌}
-use Rattle.std.specs.List.{range_with_len}
+use Rattle.std.specs.Prelude.{ℕ, zero, suc, ◌+◌, cond, List, [], ◌∷◌, ℤ, Some, None, Option, ◌==◌}
 use Rattle.lent_bytes.specs.Memory.{portion}
 use Rattle.lent_bytes.specs.Fields.{u32_in, i64_in, id_in}
 use Rattle.blocks.specs.declared.span_kind.SpanKind.{SpanKind}
@@ -54,9 +53,10 @@ fact_at m r =
 abbrev pub row_fact : List ℕ → ℕ → RowFact
 row_fact m i = fact_at m (row_at m (row_place i))
 
--- the rows in order
-unfoldable pub row_facts : List ℕ → List RowFact
-row_facts m = map (row_fact m) (range_with_len 0 (rows_in m))
+-- n rows from the i-th on
+unfoldable pub facts_from : List ℕ → ℕ → ℕ → List RowFact
+facts_from m i zero = []
+facts_from m i (suc n) = row_fact m i ∷ facts_from m (suc i) n
 
 pub record Facts : Type 0 where
   pub trace_high : ℕ
@@ -90,7 +90,7 @@ facts m =
       scope_name = header_text m 96;
       scope_version = header_text m 104;
       description = header_text m 112;
-      rows = row_facts m;
+      rows = facts_from m 0 (rows_in m);
     }
 
 -- what the code's row means

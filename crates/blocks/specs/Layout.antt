@@ -44,10 +44,6 @@ length_in m at = u32_in m (at + 4)
 abbrev pub row_place : ℕ → ℕ
 row_place i = 120 + 24 * i
 
--- the number of its list
-abbrev pub list_in : List ℕ → ℕ → ℕ
-list_in m i = slice_index m (row_place i)
-
 -- a row as it stands
 pub record Row : Type 0 where
   pub list : ℕ

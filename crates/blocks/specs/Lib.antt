@@ -1,6 +1,7 @@
 pub mod Lists
 pub mod Layout
+pub mod Faults
+pub mod First
 pub mod Facts
-pub mod Projections
-pub mod Places
-pub mod Questions
+pub mod Answers
+pub mod Lawful

@@ -1,9 +1,12 @@
-//! Blocks: the binary form in which dashboards hand over a span, its facts, and questions on it.
-pub mod layout;
-mod link_ids;
+//! Blocks: the binary form in which dashboards hand over a span, opened or refused.
+#![tactic(auto)]
+
+mod counts;
+pub mod faults;
+mod frame;
+mod layout;
 pub mod lists;
-pub mod questions;
 pub mod row;
+mod rows;
 pub mod sdk_span;
-mod search;
 pub mod span_kind;

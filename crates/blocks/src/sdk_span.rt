@@ -1,10 +1,18 @@
 //! An ended span over its block.
-ghost use Rattle.std.specs.Prelude.{◌≡◌};
+ghost use Rattle.std.specs.Prelude.{◌≡◌, IfOk, if◌then◌else◌, Some, None, MatchResult, nat_lt};
+ghost use Rattle.std.specs.Result.{result_err};
+ghost use Rattle.std.specs.Option.{option_map};
 ghost use Rattle.lent_bytes.specs.Fields.{u32_in};
+ghost use Rattle.blocks.specs.Faults.{block_fault};
+ghost use Rattle.blocks.specs.Lawful.{Lawful};
 ghost use Rattle.blocks.specs.Layout.{rows_in};
-ghost use Rattle.blocks.specs.Facts.{facts, header_text};
+ghost use Rattle.blocks.specs.Facts.{facts, header_text, row_fact, fact_of};
 
+use crate::faults::BlockFault;
+use crate::frame::{check_frame, check_texts};
 use crate::layout::text;
+use crate::row::{Row, row_at};
+use crate::rows::check_rows;
 use crate::span_kind::{SpanKind, StatusCode};
 use lent_bytes::fields::{i64_at, id_at, u16_at, u32_at};
 use lent_bytes::memory::byte;
@@ -12,7 +20,29 @@ use lent_bytes::memory::byte;
 /// An ended span, over the block that holds it.
 #[derive(Clone, Copy)]
 pub struct SdkSpan<'a> {
-    pub(crate) block: &'a [u8],
+    block: &'a [u8],
+}
+
+/// The ended span in a block, or the first fault: of the block as a whole, of its header texts, of its
+/// rows.
+fn checked(block: &[u8]) -> Result<SdkSpan<'_>, BlockFault>
+    ensures fault { result_err result ≡ block_fault block.now }
+    ensures span { IfOk result (λ s. s.block.now ≡ block.now) }
+{
+    check_frame(block)?;
+    check_texts(block)?;
+    check_rows(block)?;
+    Ok(SdkSpan { block })
+}
+
+/// Opens a block: the ended span in it, or the first fault in the order of the checks. Accepted are just
+/// the lawful blocks.
+pub fn open(block: &[u8]) -> Result<SdkSpan<'_>, BlockFault>
+    ensures fault { result_err result ≡ block_fault block.now }
+    ensures span { IfOk result (λ s. s.block.now ≡ block.now) }
+    ensures lawful { MatchResult result (λ _. Lawful block.now) (λ _. (Lawful block.now → ⊥)) }
+{
+    checked(block)
 }
 
 /// A text of the header, by where its place and length stand.
@@ -149,5 +179,16 @@ impl<'a> SdkSpan<'a> {
         ensures { result ≡ rows_in self.now.block.now }
     {
         u16_at(self.block, 2)
+    }
+
+    /// The row with a number; none from the number of rows on.
+    pub fn row(&self, i: u16) -> Option<Row<'a>>
+        ensures { option_map fact_of result ≡ (if nat_lt i (rows_in self.now.block.now) then Some (row_fact self.now.block.now i) else None) }
+    {
+        if i < u16_at(self.block, 2) {
+            Some(row_at(self.block, i))
+        } else {
+            None
+        }
     }
 }

@@ -1,4 +1,6 @@
 //! Examples of the calls on memory, at and past its ends.
+#![tactic(auto)]
+
 #[cfg(test)]
 mod tests {
     use lent_bytes::digits::{push_decimal, push_hex, push_signed};

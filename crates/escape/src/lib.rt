@@ -1,4 +1,6 @@
 //! Texts as they are printed: one line of valid UTF-8, whatever bytes they have.
+#![tactic(auto)]
+
 ghost use Rattle.std.specs.Prelude.{◌≡◌, ◌<◌, ◌≤◌, ◌&&◌, ◌||◌, length, ◌==◌, nat_le, nat_lt};
 
 use std::fmt;

@@ -1,9 +1,9 @@
 //! A line as an attribute: its key, the number of its kind, and the bytes of its value.
-use crate::form::Form;
-use notation::cut::{cut, word};
-use notation::element::value_bytes;
-use notation::fault::LineFault;
-use notation::hex::read_bytes;
+use crate::cut::{cut, word};
+use crate::element::value_bytes;
+use crate::fault::LineFault;
+use crate::hex;
+use crate::notation::Notation;
 use std::alloc::Global;
 use std::str::from_utf8;
 
@@ -55,7 +55,7 @@ fn raw_bytes(heap: Global, text: &[u8]) -> Result<Vec<u8>, LineFault> {
     let unit = match digits {
         b"" => return Err(LineFault::NoBytes),
         b"-" => Vec::new(heap),
-        _ => read_bytes(heap, digits)?,
+        _ => hex::bytes(heap, digits)?,
     };
     match count {
         Some(count) => repeated(heap, unit.as_slice(), count_of(count)?),
@@ -71,13 +71,13 @@ impl<'a> Attribute<'a> {
             return Err(LineFault::NoKind);
         }
         let (name, value) = word(rest);
-        match Form::named(name) {
-            Some(Form::Typed(kind)) => Ok(Attribute {
+        match Notation::named(name) {
+            Some(Notation::Typed(kind)) => Ok(Attribute {
                 key,
                 kind: kind.number(),
                 bytes: value_bytes(heap, kind, value)?,
             }),
-            Some(Form::Raw) => {
+            Some(Notation::Raw) => {
                 let (number, text) = word(value);
                 Ok(Attribute {
                     key,

@@ -1,14 +1,21 @@
 //! Shows typed attributes: reads one a line from standard input, and prints for each what the checked
 //! value shows, or why it is refused.
+#![tactic(auto)]
+
 mod attribute;
-mod form;
+mod cut;
+mod element;
+mod fault;
+mod hex;
+mod notation;
+mod quoted;
 mod report;
+mod tally;
 
 use crate::attribute::Attribute;
-use crate::report::Report;
-use notation::cut::{Line, Lines};
-use notation::report::NotRead;
-use notation::tally::{Summary, Tally};
+use crate::cut::{Line, Lines};
+use crate::report::{NotRead, Report};
+use crate::tally::Tally;
 use std::io;
 use std::io::Read;
 use values::check::check;
@@ -42,13 +49,7 @@ fn print_line(rt: &HostRuntime, line: Line<'_>, tally: &mut Tally) -> io::Result
         Ok(attribute) => print_attribute(rt, number, &attribute, tally),
         Err(fault) => {
             tally.count_not_read();
-            println!(rt;
-                "{}",
-                NotRead {
-                    line: number,
-                    fault,
-                }
-            )
+            println!(rt; "{}", NotRead { number, fault })
         }
     }
 }
@@ -65,9 +66,5 @@ fn main(rt: HostRuntime) -> io::Result<()> {
     let mut input = Vec::new(rt.alloc());
     rt.stdin().read_to_end(&mut input)?;
     let tally = print_all(&rt, input.as_slice())?;
-    let summary = Summary {
-        taken: "attributes shown",
-        tally,
-    };
-    println!(rt; "{summary}")
+    println!(rt; "{tally}")
 }

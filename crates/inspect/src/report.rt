@@ -1,11 +1,11 @@
-//! What is printed of an attribute: a label and a value in each row.
+//! What is printed of a line: a label and a value in each row.
+use crate::fault::LineFault;
+use crate::notation::kind_name;
 use escape::Escaped;
 use names::attribute_keys::get_attribute_idx;
-use notation::kinds::kind_name;
-use notation::report::write_row;
 use std::fmt;
+use std::fmt::Display;
 use values::check::ValueFault;
-use values::kinds::ValueKind;
 use values::show::{dd_value_to_string, display_text, otel_value_string_repr};
 use values::value::Value;
 
@@ -17,6 +17,14 @@ fn place_of(key: &[u8]) -> Option<usize> {
     }
 }
 
+fn write_row<W: fmt::Write, D: Display + Drop>(
+    f: &mut fmt::Formatter<W>,
+    label: &str,
+    value: D,
+) -> fmt::Result {
+    writeln!(f, "  {label:<14} {value}")
+}
+
 fn write_known<W: fmt::Write>(f: &mut fmt::Formatter<W>, key: &[u8]) -> fmt::Result {
     match place_of(key) {
         Some(place) => write_row(f, "known", format_args!("yes, at place {place}")),
@@ -25,9 +33,11 @@ fn write_known<W: fmt::Write>(f: &mut fmt::Formatter<W>, key: &[u8]) -> fmt::Res
 }
 
 fn write_kind<W: fmt::Write>(f: &mut fmt::Formatter<W>, number: u8) -> fmt::Result {
-    match ValueKind::from_number(number) {
-        Some(kind) => write_row(f, "kind", kind_name(kind)),
-        None => write_row(f, "kind", format_args!("none has the number {number}")),
+    let name = kind_name(number);
+    if name.is_empty() {
+        write_row(f, "kind", format_args!("none has the number {number}"))
+    } else {
+        write_row(f, "kind", Escaped(name))
     }
 }
 
@@ -93,5 +103,20 @@ impl fmt::Display for Report<'_> {
             }
             Err(fault) => write_refusal(f, fault),
         }
+    }
+}
+
+/// A line that is not read.
+#[derive(Clone, Copy)]
+pub struct NotRead {
+    pub number: u64,
+    pub fault: LineFault,
+}
+
+impl fmt::Display for NotRead {
+    fn fmt<W: fmt::Write>(&self, f: &mut fmt::Formatter<W>) -> fmt::Result {
+        let number = self.number;
+        let fault = self.fault;
+        writeln!(f, "line {number:<11} not read: {fault}")
     }
 }

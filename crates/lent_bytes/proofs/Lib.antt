@@ -4,4 +4,3 @@ pub mod Chunks
 pub mod Index
 pub mod Signs
 pub mod Endian
-pub mod Alike

@@ -1,21 +1,25 @@
 //! Opens blocks: reads one a line from standard input, as hex digits, and prints what it holds or why
 //! it is refused. With the argument `count` it prints only how many blocks were accepted and refused.
+#![tactic(auto)]
+
+mod fault;
+mod hex;
+mod lines;
 mod refusal;
 mod report;
 mod rows;
+mod tally;
 mod words;
 
+use crate::hex::read_bytes;
+use crate::lines::{Line, Lines};
 use crate::refusal::Refusal;
-use crate::report::Facts;
+use crate::report::{Facts, NotRead};
 use crate::rows::print_rows;
+use crate::tally::Tally;
 use anyhow::anyhow;
-use blocks::sdk_span::SdkSpan;
-use notation::cut::{Line, Lines};
-use notation::hex::read_bytes;
-use notation::report::NotRead;
-use notation::tally::{Summary, Tally};
-use opening::faults::BlockFault;
-use opening::open::open;
+use blocks::faults::BlockFault;
+use blocks::sdk_span::{SdkSpan, open};
 use std::env;
 use std::io::Read;
 
@@ -94,11 +98,7 @@ fn run(rt: &HostRuntime) -> anyhow::Result<()> {
     for line in Lines::new(input.as_slice()) {
         open_line(rt, mode, line, &mut tally)?;
     }
-    let summary = Summary {
-        taken: "blocks accepted",
-        tally,
-    };
-    println!(rt; "{summary}")?;
+    println!(rt; "{tally}")?;
     Ok(())
 }
 

@@ -1,6 +1,6 @@
 //! What is printed of a block that is refused.
-use notation::report::write_row;
-use opening::faults::{BlockFault, RowFault, TextFault};
+use crate::report::write_row;
+use blocks::faults::{BlockFault, RowFault, TextFault};
 use std::fmt;
 use values::check::ValueFault;
 

@@ -1,4 +1,6 @@
 //! Values of attributes: their eight kinds, the check of their bytes, and what each shows.
+#![tactic(auto)]
+
 pub mod check;
 pub mod doubles;
 pub mod elements;

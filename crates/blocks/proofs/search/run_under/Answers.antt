@@ -1,9 +1,0 @@
-use Rattle.std.proofs.Common.{rules}
-use Rattle.blocks.proofs.Projected.{under_none, under-run}
-use Rattle.blocks.proofs.search.run_under.Goals as goal
-
-pub returns-in-err-from : goal.returns-in-err-from
-returns-in-err-from c = search (rules, under_none)
-
-pub returns : goal.returns
-returns c = search (rules, under-run)

@@ -1,5 +1,0 @@
-use Rattle.derived.proofs.Names.{offered-text}
-use Rattle.derived.proofs.fields.own_text.Goals as goal
-
-pub returns : goal.returns
-returns g c = offered-text _ _ _ _ _ _ _ c.get-attr-str-n.ensures.len c.get-attr-str-n.ensures.text c.if-n-eq0.false c.front.ensures.text c.compose.ensures

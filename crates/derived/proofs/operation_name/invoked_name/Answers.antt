@@ -1,6 +1,0 @@
-use Rattle.std.proofs.Common.{◌++◌, codes}
-use Rattle.derived.proofs.Names.{offered-both}
-use Rattle.derived.proofs.operation_name.invoked_name.Goals as goal
-
-pub returns : goal.returns
-returns g c = offered-both (λ s t. s ++ (codes "." ++ (t ++ codes ".invoke"))) _ _ _ _ _ _ _ c.lower-text-provider.ensures.text c.if-is-empty.ensures c.lower-text-name.ensures.text c.if-is-empty-2.ensures c.compose.ensures

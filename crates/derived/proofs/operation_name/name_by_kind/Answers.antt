@@ -1,4 +1,0 @@
-use Rattle.derived.proofs.operation_name.name_by_kind.Goals as goal
-
-pub returns-in-Server : goal.returns-in-Server
-returns-in-Server g c = rw (← c.in-Server.ensures, ← c.if-is-http-2.ensures) c.compose-in-Server.ensures

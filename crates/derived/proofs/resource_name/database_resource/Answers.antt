@@ -1,5 +1,0 @@
-use Rattle.derived.proofs.Names.{offered-if}
-use Rattle.derived.proofs.resource_name.database_resource.Goals as goal
-
-pub returns : goal.returns
-returns g c = offered-if _ _ _ _ _ _ _ c.get-res-span-attributes-n.ensures.len c.if-n-eq0.false c.asked-text-asked.ensures.text c.if-is-empty.ensures c.compose.ensures

@@ -1,5 +1,0 @@
-use Rattle.derived.proofs.Types.{by-database}
-use Rattle.derived.proofs.span_fields.client_type.Goals as goal
-
-pub returns : goal.returns
-returns g c = by-database _ _ _ _ _ _ _ c.get-res-span-attributes-n.ensures.len c.get-res-span-attributes-n.ensures.text c.if-n-eq0.false c.front.ensures.text c.check-db-type-span-type.ensures.text c.place-2.ensures

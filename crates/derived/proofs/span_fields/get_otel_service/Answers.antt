@@ -1,5 +1,0 @@
-use Rattle.readers.proofs.Firsts.{past}
-use Rattle.derived.proofs.span_fields.get_otel_service.Goals as goal
-
-pub returns : goal.returns
-returns g c = past 4096 _ _ _ _ _ c.get-attr-str-n.ensures.len c.if-n-gt0.false (past 4096 _ _ _ _ _ c.get-res-attributes-n.ensures.len c.if-n-gt0-2.false c.place.ensures)

@@ -1,4 +1,0 @@
-pub mod OperationName
-pub mod ResourceName
-pub mod DatabaseTypes
-pub mod Fields

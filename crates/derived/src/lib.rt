@@ -1,7 +1,0 @@
-//! What is derived from a reading: names, types, and the six fields of a Datadog span.
-pub mod db_types;
-pub mod fields;
-pub mod operation_name;
-pub mod resource_name;
-pub mod span_fields;
-mod texts;

@@ -1,0 +1,4 @@
+mod Encodings
+mod Pieces
+mod Numerals
+mod Readings

@@ -1,2 +1,0 @@
-//! Readers over readers.
-pub mod later_edition;

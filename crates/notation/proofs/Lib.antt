@@ -1,5 +1,0 @@
-mod Encodings
-mod Pieces
-mod Numerals
-mod Quotes
-mod Readings

@@ -1,7 +1,0 @@
-pub mod Runs
-pub mod Clean
-pub mod Lawfully
-pub mod Kept
-pub mod Sound
-pub mod Listed
-pub mod Covering

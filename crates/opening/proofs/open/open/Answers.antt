@@ -1,5 +1,0 @@
-use Rattle.opening.proofs.Lawfully.{answered}
-use Rattle.opening.proofs.open.open.Goals as goal
-
-pub returns : goal.returns
-returns c = record { fault = c.checked.ensures.fault; span = c.checked.ensures.span; lawful = answered _ _ (λ i. (c.type-inv.block i).fits) c.checked.ensures.fault }

@@ -1,3 +1,0 @@
-mod Pairs
-pub mod Laws
-pub mod Examples

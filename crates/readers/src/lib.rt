@@ -1,5 +1,0 @@
-//! Readers of spans: what a reader answers, and its texts by several keys.
-pub mod dd_keys;
-pub mod otel_util;
-pub mod tables;
-pub mod texts;

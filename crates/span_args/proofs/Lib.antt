@@ -1,2 +1,0 @@
-pub mod Noting
-pub mod Rows
