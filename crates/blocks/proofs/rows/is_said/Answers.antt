@@ -2,8 +2,8 @@ use Rattle.std.proofs.Common.{sym, ◌∙◌, rules}
 use Rattle.blocks.proofs.Runs.{said-hit, said-miss, said-none}
 use Rattle.blocks.proofs.rows.is_said.Goals as goal
 
-pub returns-then-is-resource-key : goal.returns-then-is-resource-key
-returns-then-is-resource-key c = search (rules, said-hit)
+pub returns-then-is_resource_key : goal.returns-then-is_resource_key
+returns-then-is_resource_key c = search (rules, said-hit)
 
 pub loop-j-preserved : goal.loop-j-preserved
 loop-j-preserved c = search (rules, said-miss)

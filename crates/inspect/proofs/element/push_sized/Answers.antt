@@ -5,4 +5,4 @@ use Rattle.inspect.proofs.element.push_sized.Goals as goal
 pub returns : goal.returns
 returns c =
     let e : c.in-Ok.len ≡ length c.args.text.now = omega (arith, c.in-Ok.ensures) in
-    sized _ _ _ _ _ _ _ e c.to-le-bytes.ensures c.in-ok-extend-from-slice.ensures.items c.in-ok-extend-from-slice-2.ensures.items
+    sized _ _ _ _ _ _ _ e c.to_le_bytes.ensures c.in_ok-extend_from_slice.ensures.items c.in_ok-extend_from_slice-2.ensures.items

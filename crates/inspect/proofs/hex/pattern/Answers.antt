@@ -7,20 +7,20 @@ overflow-mul-number c =
     let r = room_fits c.loop-b.number c.loop-b.b-index 0 c.loop-b.invariant.0 (omega arith) (omega arith) in
     omega (arith, r)
 
-pub returns-in-err-number : goal.returns-in-err-number
-returns-in-err-number c =
-    let n = number-none c.loop-b.number c.loop-b.b-index c.args.digits.now c.loop-b-test.true (sym c.in-err-number.ensures.value) in
+pub returns-in_err-number : goal.returns-in_err-number
+returns-in_err-number c =
+    let n = number-none c.loop-b.number c.loop-b.b-index c.args.digits.now c.loop-b-test.true (sym c.in_err-number.ensures.value) in
     c.from-residual.ensures ∙ sym (pattern_number c.args.digits.now c.if-digits-ne16.false ∙ (sym c.loop-b.invariant.1 ∙ n))
 
 pub overflow-add-number : goal.overflow-add-number
 overflow-add-number c =
-    let r = room_fits c.loop-b.number c.loop-b.b-index c.in-ok-number.field-0 c.loop-b.invariant.0 c.in-ok-number.ensures.bound (omega arith) in
+    let r = room_fits c.loop-b.number c.loop-b.b-index c.in_ok-number.field-0 c.loop-b.invariant.0 c.in_ok-number.ensures.bound (omega arith) in
     omega (arith, r)
 
 pub loop-b-preserved : goal.loop-b-preserved
 loop-b-preserved c =
-    let m = number_more c.loop-b.number c.loop-b.b-index c.args.digits.now c.in-ok-number.field-0 c.loop-b-test.true (sym c.in-ok-number.ensures.value) in
-    (room-more c.loop-b.number c.loop-b.b-index c.in-ok-number.field-0 c.loop-b.invariant.0 c.in-ok-number.ensures.bound, sym m ∙ c.loop-b.invariant.1)
+    let m = number_more c.loop-b.number c.loop-b.b-index c.args.digits.now c.in_ok-number.field-0 c.loop-b-test.true (sym c.in_ok-number.ensures.value) in
+    (room-more c.loop-b.number c.loop-b.b-index c.in_ok-number.field-0 c.loop-b.invariant.0 c.in_ok-number.ensures.bound, sym m ∙ c.loop-b.invariant.1)
 
 pub returns : goal.returns
 returns c =

@@ -7,4 +7,4 @@ pub returns-then-x-lt10 : goal.returns-then-x-lt10
 returns-then-x-lt10 t c = search (rules, decimal_digit)
 
 pub returns : goal.returns
-returns t c = let p = pushed_more _ _ _ _ _ _ _ _ c.push-decimal-n.ensures c.push-2.ensures in search (rules, decimal_step)
+returns t c = let p = pushed_more _ _ _ _ _ _ _ _ c.push_decimal-n.ensures c.push-2.ensures in search (rules, decimal_step)

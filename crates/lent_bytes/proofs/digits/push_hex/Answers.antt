@@ -1,4 +1,4 @@
-use Rattle.std.proofs.Common.{◌≡◌, ◌+◌, [], ◌∷◌, ◌++◌, length, get_or, take, sym, ap, ◌∙◌, arith, rules}
+use Rattle.std.proofs.Common.{◌≡◌, ◌+◌, [], ◌∷◌, ◌++◌, get_or, take, sym, ap, ◌∙◌, arith}
 use Rattle.std.specs.List.{flat_map}
 use Rattle.std.proofs.lemmas.List.{take_more, take_all, flat_map_more}
 use Rattle.lent_bytes.specs.Digits.{hex_pair}
@@ -14,7 +14,7 @@ loop-b-preserved c =
     let xs = c.args.bytes.now in
     let i = c.loop-b.b-index in
     let m : flat_map hex_pair (take (i + 1) xs) ≡ flat_map hex_pair (take i xs) ++ hex_pair (get_or xs i 0) = ap (flat_map hex_pair) (take_more xs i 0 (omega arith)) ∙ sym (flat_map_more hex_pair [] (take i xs) (get_or xs i 0)) in
-    let h : c.hex-digit.result ∷ c.hex-digit-in-loop-b.result ∷ [] ≡ hex_pair (get_or xs i 0) = cc in
+    let h : c.hex_digit.result ∷ c.hex_digit-in-loop-b.result ∷ [] ≡ hex_pair (get_or xs i 0) = cc in
     rw (m, ← h) p
 
 pub returns : goal.returns

@@ -7,4 +7,4 @@ pub returns-then-z-ge0 : goal.returns-then-z-ge0
 returns-then-z-ge0 c = search (rules, signed-positive)
 
 pub returns : goal.returns
-returns c = let p = pushed_more _ _ _ _ _ _ _ _ c.push-n.ensures c.push-decimal-2.ensures in search (rules, signed-negative)
+returns c = let p = pushed_more _ _ _ _ _ _ _ _ c.push-n.ensures c.push_decimal-2.ensures in search (rules, signed-negative)

@@ -1,4 +1,4 @@
-use Rattle.std.proofs.Common.{length, refl, arith, rules}
+use Rattle.std.proofs.Common.{length, refl, rules}
 use Rattle.lent_bytes.proofs.Clips.{finished}
 use Rattle.lent_bytes.proofs.memory.clear_from.Goals as goal
 

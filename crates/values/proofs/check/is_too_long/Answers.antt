@@ -7,5 +7,5 @@ use Rattle.values.proofs.check.is_too_long.Goals as goal
 
 pub returns : goal.returns
 returns c =
-    let l : c.push-value.result ≡ min 4097 (length (display (meant c.args.value))) = c.push-value.ensures.len ∙ length-clip _ _ in
+    let l : c.push_value.result ≡ min 4097 (length (display (meant c.args.value))) = c.push_value.ensures.len ∙ length-clip _ _ in
     grind (arith, nat_tests)

@@ -3,8 +3,8 @@ use Rattle.std.proofs.lemmas.Bool.Decides.{nat_tests}
 use Rattle.values.proofs.Steps.{falls, readable-next, elements-end}
 use Rattle.values.proofs.elements.are_readable.Goals as goal
 
-pub returns-then-not-is-readable : goal.returns-then-not-is-readable
-returns-then-not-is-readable c = let n = readable-next c.args.kind c.loop-first.left.now _ c.in-Some.ensures in let i = c.loop-first.invariant in search rules
+pub returns-then-not-is_readable : goal.returns-then-not-is_readable
+returns-then-not-is_readable c = let n = readable-next c.args.kind c.loop-first.left.now _ c.in-Some.ensures in let i = c.loop-first.invariant in search rules
 
 pub loop-first-smaller : goal.loop-first-smaller
 loop-first-smaller c = falls c.args.kind c.loop-first.left.now _ _ c.in-Some.ensures c.after-left.ensures
@@ -13,4 +13,4 @@ pub loop-first-preserved : goal.loop-first-preserved
 loop-first-preserved c = let n = readable-next c.args.kind c.loop-first.left.now _ c.in-Some.ensures in let i = c.loop-first.invariant in search rules
 
 pub returns : goal.returns
-returns c = let e = elements-end c.args.kind c.loop-first.left.now (sym c.in-default.ensures) in let i = c.loop-first.invariant in search rules
+returns c = let e = elements-end c.args.kind c.loop-first.left.now (sym c.in_default.ensures) in let i = c.loop-first.invariant in search rules

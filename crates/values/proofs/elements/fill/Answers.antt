@@ -10,4 +10,4 @@ pub loop-first-preserved : goal.loop-first-preserved
 loop-first-preserved c = let n = sizes-next c.args.kind c.loop-first.left.now _ _ c.in-Some.ensures c.after-left.ensures in let i = c.loop-first.invariant in omega arith
 
 pub returns : goal.returns
-returns c = let e = sizes-end c.args.kind c.loop-first.left.now c.in-default.ensures in let i = c.loop-first.invariant in grind (arith, nat_tests)
+returns c = let e = sizes-end c.args.kind c.loop-first.left.now c.in_default.ensures in let i = c.loop-first.invariant in grind (arith, nat_tests)

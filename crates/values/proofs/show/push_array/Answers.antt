@@ -13,7 +13,7 @@ loop-element-init c = ([], pushed_none c.push-at.new.out c.push-at.result (pushe
 pub loop-element-preserved : goal.loop-element-preserved
 loop-element-preserved c =
     let i = c.loop-element.invariant in
-    let p = pushed_more _ _ _ _ _ _ _ _ i.1 c.push-item-at.ensures in
+    let p = pushed_more _ _ _ _ _ _ _ _ i.1 c.push_item-at.ensures in
     let n = listed_next c.args.quotes c.loop-element.first c.args.array.kind c.loop-element.left.now _ _ c.in-Some.ensures c.after-left.ensures in
     (_, p, append_assoc i.0 _ _ ∙ ap (λ l. i.0 ++ l) (sym n) ∙ i.2)
 
@@ -22,5 +22,5 @@ returns c =
     let i = c.loop-element.invariant in
     let p = pushed_more _ _ _ _ _ _ _ _ i.1 c.push.ensures in
     let q = pushed_more _ _ _ _ _ _ _ _ c.push-at.ensures p in
-    let n = listed-end c.args.quotes c.loop-element.first c.args.array.kind c.loop-element.left.now c.in-default.ensures in
+    let n = listed-end c.args.quotes c.loop-element.first c.args.array.kind c.loop-element.left.now c.in_default.ensures in
     rw (← n, i.2) at q
