@@ -1,30 +1,27 @@
 -- Open accepts just the lawful blocks.
-use Rattle.std.proofs.Common.{◌≡◌, ℕ, zero, suc, ◌+◌, ◌*◌, ◌<◌, ◌≤◌, Bool, true, false, cond, ◌&&◌, ◌||◌, eqb, ltb, leb, ◌⊎◌, List, [], ◌∷◌, length, get_or, ℤ, pos, negsuc, Some, None, Ok, Err, IsUtf8, Decides, Option, Result, sym, refl, ap, ◌∙◌, subst, inl, inr, ⊎_elim, arith, MatchResult}
+use Rattle.std.proofs.Common.{◌≡◌, ℕ, zero, suc, ◌+◌, ◌*◌, ◌<◌, ◌≤◌, Bool, true, false, ◌&&◌, ◌||◌, eqb, ltb, leb, ◌⊎◌, List, [], ◌∷◌, length, get_or, ℤ, pos, negsuc, Some, None, Ok, Err, Decides, Option, Result, sym, refl, ap, ◌∙◌, subst, inl, inr, ⊎_elim, arith, MatchResult}
 use Rattle.std.specs.Result.{result_err}
 use Rattle.blocks.specs.declared.faults.BlockFault.{BlockFault}
-use Rattle.std.specs.Str.{bytes_eq}
 use Rattle.std.proofs.lemmas.Slice.Eq.{bytes_eq-Decides}
 use Rattle.std.proofs.lemmas.Bool.{false≢true, leb-true, le-leb, eqb-true, eqb-false, eq-eqb, ne_eqb, cases_Bool, cases_lt}
-use Rattle.std.proofs.lemmas.Bool.Decides.{Decides-eqb, Decides-ltb, Decides-and, Decides-or, Decides-like, Decides-below_or}
-use Rattle.lent_bytes.specs.Memory.{Bytes, portion}
+use Rattle.std.proofs.lemmas.Bool.Decides.{Decides-eqb, Decides-ltb, Decides-and, Decides-or, Decides-below_or}
+use Rattle.lent_bytes.specs.Memory.{Bytes}
 use Rattle.lent_bytes.proofs.Endian.{bytes-portion}
 use Rattle.values.specs.Atoms.{Atom, Datum, flag, whole, double, words, single, several}
-use Rattle.values.specs.declared.check.ValueFault.{ValueFault}
 use Rattle.values.specs.declared.check.ValueFault.TheVariants.{Form, NotUtf8, TooLong}
 use Rattle.values.specs.Format.{value_of}
 use Rattle.values.specs.Shown.{display, readable, all_readable, datum_readable}
 use Rattle.values.specs.Unicode.{is_text}
 use Rattle.values.specs.Faults.{value_fault, datum_fault}
-use Rattle.values.specs.Encoding.{Encodes}
 use Rattle.values.proofs.Decided.{is_text-decides}
 use Rattle.values.proofs.Readback.{read_back}
 use Rattle.values.proofs.Writeback.{written_back}
 use Rattle.blocks.specs.declared.faults.TextFault.TheVariants.{Place as TextPlace, NotUtf8 as TextNotUtf8}
 use Rattle.blocks.specs.declared.faults.RowFault.TheVariants.{List as ListFault, Key, KeyNotUtf8, Value, Twice}
 use Rattle.blocks.specs.declared.faults.BlockFault.TheVariants.{Length, Header as Header-fault, Layout, Text, Row as RowFaultAt}
-use Rattle.blocks.specs.First.{or_else, first_from}
+use Rattle.blocks.specs.First.{first_from}
 use Rattle.blocks.specs.Layout.{version_in, rows_in, offset_in, capacity_in, kind_in, status_in, used_in, state_in, text_in, place_in, length_in, row_place, Row, row_at}
-use Rattle.blocks.specs.Faults.{length_fault, header_ok, layout_ok, frame_fault, within, text_fault, texts_fault, list_in, owns, counted, above, list_fault, least_key, longest_key, key_in, key_fault, zero_time, event_value, link_value, attribute_value, row_value, resource_key, said, twice_fault, content_fault, row_fault, row_at_fault, block_fault}
+use Rattle.blocks.specs.Faults.{length_fault, header_ok, layout_ok, frame_fault, within, text_fault, texts_fault, list_in, owns, above, list_fault, least_key, longest_key, key_in, key_fault, zero_time, event_value, link_value, attribute_value, row_value, resource_key, said, twice_fault, content_fault, row_fault, row_at_fault, block_fault}
 use Rattle.blocks.specs.Lawful.{FrameLawful, TextLawful, ReadableAtom, ReadableAll, Readable, ValueLawful, EventLawful, LinkLawful, AttributeLawful, RowLawful, Lawful, OpenedExactly}
 use Rattle.blocks.proofs.Clean.{Clean, some-none, clean-like, clean-none, clean-or, clean-and, clean-not, clean-by, clean-mapped, clean-first}
 

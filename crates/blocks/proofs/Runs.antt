@@ -7,7 +7,7 @@ use Rattle.blocks.specs.declared.lists.List.{List as ListCase}
 use Rattle.blocks.specs.declared.lists.List.TheVariants.{Span, Resource, Scope, Event, EventAttribute, Link, LinkAttribute}
 use Rattle.blocks.specs.Lists.{list_number}
 use Rattle.blocks.specs.Layout.{Row}
-use Rattle.blocks.specs.Faults.{list_in, resource_key, said, above, aboves, counted, counted_all, list_fault, list_fault_by, FewRows, content_fault, row_fault}
+use Rattle.blocks.specs.Faults.{list_in, resource_key, said, above, aboves, counted_all, list_fault, list_fault_by, FewRows, content_fault, row_fault}
 
 -- one row further up
 said-next : (m k : List ℕ) (j : ℕ) → 0 < j → said m k j ≡ resource_key m k (j - 1) || said m k (j - 1)

@@ -1,7 +1,6 @@
 -- The facts of a block: what its header and its rows say. They are defined on any bytes.
-use Rattle.std.specs.Prelude.{ℕ, zero, suc, ◌+◌, cond, List, [], ◌∷◌, ℤ, Some, None, Option, ◌==◌}
-use Rattle.lent_bytes.specs.Memory.{portion}
-use Rattle.lent_bytes.specs.Fields.{u32_in, i64_in, id_in}
+use Rattle.std.specs.Prelude.{ℕ, zero, suc, cond, List, [], ◌∷◌, ℤ, ◌==◌}
+use Rattle.lent_bytes.specs.Fields.{i64_in, id_in}
 use Rattle.blocks.specs.declared.span_kind.SpanKind.{SpanKind}
 use Rattle.blocks.specs.declared.span_kind.SpanKind.TheVariants.{Internal, Server, Client, Producer, Consumer}
 use Rattle.blocks.specs.declared.span_kind.StatusCode.{StatusCode}

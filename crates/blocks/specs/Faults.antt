@@ -1,12 +1,11 @@
 -- When a block is refused, in the order of the checks.
-use Rattle.std.specs.Prelude.{ℕ, zero, suc, ◌+◌, ◌*◌, ◌<◌, Bool, true, false, cond, not, ◌&&◌, ◌||◌, List, [], ◌∷◌, length, replicate, ℤ, pos, negsuc, Some, None, Option, ◌==◌, nat_le, nat_lt, slice_index}
+use Rattle.std.specs.Prelude.{ℕ, zero, suc, ◌+◌, ◌*◌, ◌<◌, Bool, true, false, cond, ◌&&◌, ◌||◌, List, [], ◌∷◌, length, ℤ, pos, negsuc, Some, None, Option, ◌==◌, nat_le, nat_lt, slice_index}
 use Rattle.std.specs.Option.{option_map}
 use Rattle.std.specs.Str.{bytes_eq}
-use Rattle.lent_bytes.specs.Memory.{portion}
 use Rattle.values.specs.Unicode.{is_text}
 use Rattle.values.specs.Faults.{value_fault}
 use Rattle.values.specs.declared.check.ValueFault.{ValueFault}
-use Rattle.values.specs.declared.check.ValueFault.TheVariants.{Form, NotUtf8, TooLong}
+use Rattle.values.specs.declared.check.ValueFault.TheVariants.{Form}
 use Rattle.blocks.specs.declared.faults.TextFault.{TextFault}
 use Rattle.blocks.specs.declared.faults.TextFault.TheVariants.{Place as TextPlace, NotUtf8 as TextNotUtf8}
 use Rattle.blocks.specs.declared.faults.RowFault.{RowFault}

@@ -44,7 +44,11 @@ fn write_kind<W: fmt::Write>(f: &mut fmt::Formatter<W>, number: u8) -> fmt::Resu
 fn write_texts<W: fmt::Write>(f: &mut fmt::Formatter<W>, value: &Value<'_>) -> fmt::Result {
     let mut text = [0u8; 4096];
     let len = display_text(value, &mut text);
-    write_row(f, "display", Escaped(lent_bytes::memory::part(&text, 0, len)))?;
+    write_row(
+        f,
+        "display",
+        Escaped(lent_bytes::memory::part(&text, 0, len)),
+    )?;
     let len = otel_value_string_repr(value, &mut text);
     write_row(
         f,

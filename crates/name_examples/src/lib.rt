@@ -1,7 +1,6 @@
 //! Examples of the names: known keys and their neighbours, the last of several places, and lower case.
 #![tactic(auto)]
 
-
 #[cfg(test)]
 mod tests {
     use names::attribute_indices::AttributeIndices;

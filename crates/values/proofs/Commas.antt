@@ -1,5 +1,5 @@
 -- An array's text, element by element.
-use Rattle.std.proofs.Common.{◌≡◌, ℕ, Bool, false, List, [], ◌∷◌, ◌++◌, map, Some, None, sym, ap, ◌∙◌}
+use Rattle.std.proofs.Common.{◌≡◌, ℕ, Bool, false, List, [], ◌∷◌, ◌++◌, map, Some, None, sym, ap}
 use Rattle.lent_bytes.specs.Memory.{rest}
 use Rattle.values.specs.declared.kinds.ScalarKind.{ScalarKind}
 use Rattle.values.specs.Format.{Element, element, elements_in}

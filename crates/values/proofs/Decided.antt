@@ -1,7 +1,7 @@
 -- The test says what `Utf8` says.
-use Rattle.std.proofs.Common.{◌≡◌, ℕ, true, ◌&&◌, List, IsUtf8, Decides}
+use Rattle.std.proofs.Common.{ℕ, List, IsUtf8, Decides}
 use lib.Utf8.{encodes, scalars}
-use Rattle.std.specs.Str.{chars, bytes_eq}
+use Rattle.std.specs.Str.{chars}
 use Rattle.std.proofs.lemmas.Slice.Eq.{bytes_eq-Decides}
 use Rattle.std.proofs.lemmas.Bool.{and_parts, and_from}
 use Rattle.std.proofs.lemmas.Str.{encodes-chars, scalars-chars}

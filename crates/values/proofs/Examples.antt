@@ -1,5 +1,5 @@
 -- The worked examples, by computation.
-use Rattle.std.proofs.Common.{◌≡◌, ℕ, true, false, List, [], ◌∷◌, IsUtf8, sym, refl, ◌∙◌}
+use Rattle.std.proofs.Common.{◌≡◌, ℕ, false, List, IsUtf8, refl}
 use lib.Ieee.{of_bits, to_bits, of_int}
 use lib.Utf8.{encode}
 use Rattle.std.specs.Str.{chars}

@@ -1,10 +1,10 @@
 -- The encoding of a value is read as that value.
-use Rattle.std.proofs.Common.{◌≡◌, ℕ, ◌+◌, ◌^◌, ◌<◌, ◌≤◌, Bool, true, false, cond, eqb, ltb, leb, List, [], ◌∷◌, ◌++◌, length, get_or, take, drop, Some, None, sym, refl, ap, ◌∙◌, arith, length-append}
+use Rattle.std.proofs.Common.{◌≡◌, ℕ, ◌+◌, ◌<◌, ◌≤◌, true, false, List, [], ◌∷◌, ◌++◌, length, Some, refl, ap, ◌∙◌, arith, length-append}
 use lib.Seq.{take-append_seam, drop-append_seam}
 use Rattle.std.specs.List.{flat_map}
 use Rattle.std.proofs.lemmas.Bool.{ne_eqb, eq-eqb, le-ltb, lt-ltb, le-leb, and_from}
 use Rattle.lent_bytes.specs.Memory.{portion, rest}
-use Rattle.lent_bytes.specs.Fields.{u16_in, u64_in, le2, le8, bytes2, bytes8, ints8}
+use Rattle.lent_bytes.specs.Fields.{u16_in, u64_in, bytes8, ints8}
 use Rattle.lent_bytes.proofs.Frames.{le2-bytes2, le8-bytes8, int8-ints8}
 use Rattle.values.specs.declared.kinds.ScalarKind.{ScalarKind}
 use Rattle.values.specs.declared.kinds.ScalarKind.TheVariants.{Bool as KBool, I64 as KI64, F64 as KF64, String as KString}
@@ -12,8 +12,8 @@ use Rattle.values.specs.declared.kinds.ValueKind.{ValueKind}
 use Rattle.values.specs.declared.kinds.ValueKind.TheVariants.{Scalar, Array}
 use Rattle.values.specs.Atoms.{Atom, Datum, flag, whole, double, words, single, several}
 use Rattle.values.specs.Kinds.{kind_of, kind_number}
-use Rattle.values.specs.Format.{Element, element, double_sized, words_sized, elements_past, elements_in, size_of, sizes_of, alone, alone_formed, atom_kind, datum_kind, datum_of, value_of}
-use Rattle.values.specs.Encoding.{flag_bytes, bytes_alone, bytes_inside, encoding, Fitting, FittingInside, AllInside, FittingDatum, Encodes}
+use Rattle.values.specs.Format.{element, double_sized, words_sized, elements_past, elements_in, size_of, sizes_of, alone, alone_formed, atom_kind, datum_kind, datum_of, value_of}
+use Rattle.values.specs.Encoding.{bytes_alone, bytes_inside, encoding, Fitting, FittingInside, AllInside, FittingDatum, Encodes}
 use Rattle.values.proofs.Steps.{elements-next}
 
 -- an element whose sizes are right is there

@@ -1,5 +1,5 @@
 -- Fractions that are equal are whole alike.
-use Rattle.std.proofs.Common.{◌≡◌, ℕ, zero, suc, ◌+◌, ◌-◌, ◌*◌, ◌/◌, ◌%◌, ◌^◌, ◌<◌, ◌≤◌, Bool, true, false, cond, not, T, eqb, ltb, leb, ◌≢◌, ℤ, pos, negsuc, neg_ℤ, nat_abs, Some, None, Option, sym, refl, ap, ◌∙◌, subst, ⊎_elim, add-zero, mul-le-mul_right, mod-eq_of_lt, mul_assoc, mul_comm, div-add-mod', mul-one, mul_right_comm, div-one, mul-div_cancel, arith, pow_pos, pow_mono, pow-add, rules}
+use Rattle.std.proofs.Common.{◌≡◌, ℕ, zero, suc, ◌+◌, ◌-◌, ◌*◌, ◌/◌, ◌%◌, ◌^◌, ◌<◌, ◌≤◌, Bool, true, false, cond, not, T, eqb, ltb, leb, ◌≢◌, ℤ, pos, negsuc, nat_abs, Some, None, Option, sym, refl, ap, ◌∙◌, ⊎_elim, add-zero, mul-le-mul_right, mod-eq_of_lt, mul_assoc, mul_comm, div-add-mod', mul_right_comm, div-one, mul-div_cancel, arith, pow_pos, pow_mono, pow-add}
 use native.Mathlib.Nat.{mul-mod_left, eq_of_mul-eq-mul_right, mod-one}
 use lib.Ieee.{Float, nan, inf, fin, Format, binary64, up, down, is_nan, odd, units, low, prec, emax, round, of_int, of_fields, of_bits}
 use lib.Ieee.Exact.{HasValue, odd_sign}

@@ -1,15 +1,14 @@
 -- Going through the elements of an array, one after the other.
-use Rattle.std.proofs.Common.{◌≡◌, ℕ, zero, suc, ◌+◌, ◌-◌, ◌<◌, ◌≤◌, true, false, cond, ◌&&◌, eqb, ltb, List, [], ◌∷◌, length, get_or, Some, None, Option, sym, refl, ap, ◌∙◌, subst, arith, rules}
+use Rattle.std.proofs.Common.{◌≡◌, ℕ, zero, suc, ◌+◌, ◌-◌, ◌<◌, ◌≤◌, true, false, cond, ◌&&◌, eqb, ltb, List, [], ◌∷◌, length, Some, None, Option, sym, refl, ap, ◌∙◌, subst, arith}
 use mathlib.Core.Bool as Bool
 use Rattle.values.specs.Shown.{readable, all_readable}
-use Rattle.std.proofs.lemmas.Bool.Decides.{nat_tests}
 use Rattle.lent_bytes.specs.Memory.{rest, portion}
 use Rattle.lent_bytes.proofs.Frames.{length-portion, length_rest}
 use Rattle.std.proofs.lemmas.Bool.{ltb-false, eqb-false}
 use Rattle.lent_bytes.specs.Fields.{u16_in, u64_in}
 use Rattle.values.specs.declared.kinds.ScalarKind.{ScalarKind}
 use Rattle.values.specs.declared.kinds.ScalarKind.TheVariants.{Bool, I64, F64, String}
-use Rattle.values.specs.Atoms.{Atom, double, words}
+use Rattle.values.specs.Atoms.{double, words}
 use Rattle.values.specs.Format.{Element, words_sized, element, chained, elements_past, elements_in, size_of, sizes_of}
 
 -- what an element takes lies in its bytes, and is what its scalar takes; shut, so that a test on the option is seen in it

@@ -1,14 +1,13 @@
 -- A checked value's texts fit.
-use Rattle.std.proofs.Common.{◌≡◌, ℕ, zero, suc, ◌+◌, ◌≤◌, Bool, true, false, cond, leb, List, [], ◌∷◌, ◌++◌, map, length, ℤ, pos, negsuc, Some, None, Option, sym, refl, ap, ◌∙◌, arith, length-append}
+use Rattle.std.proofs.Common.{◌≡◌, ℕ, zero, suc, ◌≤◌, Bool, true, false, cond, leb, List, [], ◌∷◌, map, length, ℤ, pos, negsuc, Some, None, Option, sym, refl, ap, ◌∙◌, arith, length-append}
 use lib.Ieee.{of_bits, binary64}
 use Rattle.std.proofs.lemmas.Bool.{leb-true}
 use Rattle.values.specs.declared.check.ValueFault.TheVariants.{NotUtf8, TooLong}
 use Rattle.lent_bytes.proofs.Clips.{clip-all}
 use Rattle.values.specs.Atoms.{Atom, Datum, flag, whole, double, words, single, several}
 use Rattle.values.specs.Doubles.{whole_of}
-use Rattle.values.specs.Format.{value_of}
-use Rattle.values.specs.Shown.{atom_text, comma, listed, text_by_number, datum_readable, display, dd_string, string_repr}
-use Rattle.values.specs.Faults.{value_fault, datum_fault}
+use Rattle.values.specs.Shown.{atom_text, listed, text_by_number, datum_readable, display, dd_string, string_repr}
+use Rattle.values.specs.Faults.{datum_fault}
 use Rattle.values.specs.Laws.{CheckedIsNeverClipped}
 
 -- what the check leaves when it finds no fault

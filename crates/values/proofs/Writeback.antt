@@ -1,22 +1,21 @@
 -- Bytes that are read as a value are its encoding.
-use Rattle.std.proofs.Common.{◌≡◌, ℕ, zero, suc, ◌+◌, ◌-◌, ◌^◌, ◌<◌, ◌≤◌, true, false, cond, eqb, ltb, leb, List, [], ◌∷◌, ◌++◌, length, get_or, take, drop, Some, None, Option, sym, refl, ap, ◌∙◌, subst, ⊎_elim, append_assoc, arith, w64, Fits, to_z, of_z, rules}
+use Rattle.std.proofs.Common.{◌≡◌, ℕ, zero, suc, ◌+◌, ◌^◌, ◌<◌, ◌≤◌, true, false, cond, eqb, ltb, List, [], ◌∷◌, ◌++◌, length, get_or, Some, None, Option, sym, refl, ap, ◌∙◌, subst, arith, w64, Fits, rules}
 use mathlib.Core.Bool as Bool
 use mir.ValLaws.{of_z-to_z, to_z-Fits}
 use Rattle.std.specs.List.{flat_map}
 use Rattle.std.proofs.lemmas.List.{places, same_lists, take_all}
-use Rattle.std.proofs.lemmas.Bool.{eqb-false, eqb-true, ltb-false, ltb-true, leb-true, and_parts, cases_Bool}
-use Rattle.std.proofs.lemmas.Bool.Decides.{nat_tests}
+use Rattle.std.proofs.lemmas.Bool.{eqb-false, eqb-true, ltb-false, ltb-true, leb-true, and_parts}
 use Rattle.lent_bytes.specs.Memory.{Bytes, portion, rest}
-use Rattle.lent_bytes.specs.Fields.{u16_in, u64_in, i64_in, le2, le8, bytes2, bytes8, ints8}
+use Rattle.lent_bytes.specs.Fields.{u16_in, u64_in, i64_in, bytes2, bytes8, ints8}
 use Rattle.lent_bytes.proofs.Frames.{length-portion, length_rest}
 use Rattle.lent_bytes.proofs.Endian.{bytes2-le2, bytes8-le8, le2-fits, le8-fits, bytes-portion, bytes_rest, front_rest}
 use Rattle.values.specs.declared.kinds.ScalarKind.{ScalarKind}
 use Rattle.values.specs.declared.kinds.ScalarKind.TheVariants.{Bool as KBool, I64 as KI64, F64 as KF64, String as KString}
 use Rattle.values.specs.declared.kinds.ValueKind.{ValueKind}
 use Rattle.values.specs.declared.kinds.ValueKind.TheVariants.{Scalar, Array}
-use Rattle.values.specs.Atoms.{Atom, Datum, flag, whole, double, words, single, several}
+use Rattle.values.specs.Atoms.{Atom, Datum, double, words}
 use Rattle.values.specs.Kinds.{kind_of, kind_number}
-use Rattle.values.specs.Format.{Element, element, double_sized, words_sized, elements_in, size_of, sizes_of, alone, alone_formed, atom_kind, datum_kind, datum_in, datum_of, formed, value_of}
+use Rattle.values.specs.Format.{Element, element, double_sized, words_sized, elements_in, sizes_of, alone, alone_formed, atom_kind, datum_kind, datum_in, datum_of, formed, value_of}
 use Rattle.values.specs.Encoding.{flag_bytes, bytes_alone, bytes_inside, encoding, Fitting, FittingInside, AllInside, FittingDatum, Encodes}
 use Rattle.values.proofs.Steps.{elements-next, elements-end, element-sized}
 

@@ -1,11 +1,10 @@
 -- What holds of the definitions as a whole.
-use Rattle.std.specs.Prelude.{◌≡◌, ℕ, ◌^◌, true, List, [], ◌∷◌, pos, negsuc, Some, None, codes, IsUtf8, from_bits}
-use Rattle.std.specs.Float.Ieee.{to_bits, of_int}
+use Rattle.std.specs.Prelude.{◌≡◌, ℕ, true, List, [], ◌∷◌, pos, negsuc, Some, None, codes, IsUtf8, from_bits}
 use Rattle.std.specs.Float.{binary64}
 use Rattle.std.proofs.Math.Utf8.{encodes, scalars}
 use Rattle.lent_bytes.specs.Memory.{clip}
 use Rattle.values.specs.declared.kinds.ScalarKind.TheVariants.{String}
-use Rattle.values.specs.Atoms.{Datum, whole, double, words, single, several}
+use Rattle.values.specs.Atoms.{Datum, whole, words, single, several}
 use Rattle.values.specs.Doubles.{whole_of}
 use Rattle.values.specs.Format.{value_of}
 use Rattle.values.specs.Shown.{display, dd_string, string_repr, metric_of}

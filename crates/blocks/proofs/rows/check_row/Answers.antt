@@ -1,4 +1,4 @@
-use Rattle.std.proofs.Common.{◌≡◌, sym, ap, ◌∙◌, rules}
+use Rattle.std.proofs.Common.{sym, ap, ◌∙◌, rules}
 use Rattle.blocks.specs.Layout.{Row}
 use Rattle.blocks.proofs.Runs.{list-number, list_same, row-passes}
 use Rattle.blocks.proofs.rows.check_row.Goals as goal

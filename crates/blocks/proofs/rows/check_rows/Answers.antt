@@ -1,4 +1,4 @@
-use Rattle.std.proofs.Common.{◌≡◌, sym, refl, ap, ◌∙◌, arith, rules}
+use Rattle.std.proofs.Common.{sym, arith, rules}
 use Rattle.blocks.proofs.Runs.{firsts, aboves-none, counts-next, few-rows}
 use Rattle.blocks.proofs.rows.check_rows.Goals as goal
 

@@ -1,4 +1,4 @@
-use Rattle.std.proofs.Common.{sym, ◌∙◌, rules}
+use Rattle.std.proofs.Common.{rules}
 use Rattle.blocks.proofs.Runs.{said-hit, said-miss, said-none}
 use Rattle.blocks.proofs.rows.is_said.Goals as goal
 

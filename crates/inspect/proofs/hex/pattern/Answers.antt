@@ -1,19 +1,19 @@
-use Rattle.std.proofs.Common.{◌≡◌, ◌<◌, sym, ◌∙◌, arith}
+use Rattle.std.proofs.Common.{sym, ◌∙◌, arith}
 use Rattle.inspect.proofs.Numerals.{room-more, room_fits, number_more, number-none, number-end, pattern_number}
 use Rattle.inspect.proofs.hex.pattern.Goals as goal
 
-pub overflow-mul-number : goal.overflow-mul-number
-overflow-mul-number c =
+pub overflow_mul-number : goal.overflow_mul-number
+overflow_mul-number c =
     let r = room_fits c.loop-b.number c.loop-b.b-index 0 c.loop-b.invariant.0 (omega arith) (omega arith) in
     omega (arith, r)
 
 pub returns-in_err-number : goal.returns-in_err-number
 returns-in_err-number c =
     let n = number-none c.loop-b.number c.loop-b.b-index c.args.digits.now c.loop-b-test.true (sym c.in_err-number.ensures.value) in
-    c.from-residual.ensures ∙ sym (pattern_number c.args.digits.now c.if-digits-ne16.false ∙ (sym c.loop-b.invariant.1 ∙ n))
+    c.from_residual.ensures ∙ sym (pattern_number c.args.digits.now c.if-digits-ne16.false ∙ (sym c.loop-b.invariant.1 ∙ n))
 
-pub overflow-add-number : goal.overflow-add-number
-overflow-add-number c =
+pub overflow_add-number : goal.overflow_add-number
+overflow_add-number c =
     let r = room_fits c.loop-b.number c.loop-b.b-index c.in_ok-number.field-0 c.loop-b.invariant.0 c.in_ok-number.ensures.bound (omega arith) in
     omega (arith, r)
 

@@ -2,7 +2,7 @@ use Rattle.std.proofs.Common.{vec_items, sym, ap, ◌∙◌, inr}
 use Rattle.open_blocks.specs.Reading.{finished}
 use Rattle.open_blocks.proofs.Readings.{read-into, read_byte, read-wrong, read-end}
 use Rattle.open_blocks.proofs.hex.read_bytes.Goals as goal
-use Rattle.open_blocks.proofs.hex.read_bytes.Goals.{in-Into, in-Byte+in_ok-push}
+use Rattle.open_blocks.proofs.hex.read_bytes.Goals.{in-Into, in-Byte+in_ok-push-in-Byte}
 
 pub returns-in-Wrong : goal.returns-in-Wrong
 returns-in-Wrong c =
@@ -14,7 +14,7 @@ loop-b-preserved c =
     let xs = c.args.digits.now in let i = c.loop-b.b-index in let h = c.loop-b-test.true in let out = vec_items c.loop-b.out in
     elim c.match-step.branch [
       | in-Into w ↦ rw (w.place-is, w.out-is) (sym (read-into c.loop-b.place out xs i h w.in-Into.next w.in-Into.ensures) ∙ c.loop-b.invariant)
-      | in-Byte+in_ok-push w ↦ rw (w.place-is, w.out-is, w.in_ok-push.ensures.items) (sym (read_byte c.loop-b.place out xs i h w.in-Byte.b w.in-Byte.ensures) ∙ c.loop-b.invariant)
+      | in-Byte+in_ok-push-in-Byte w ↦ rw (w.place-is, w.out-is, w.in_ok-push-in-Byte.ensures.items) (sym (read_byte c.loop-b.place out xs i h w.in-Byte.b w.in-Byte.ensures) ∙ c.loop-b.invariant)
     ]
 
 pub returns-in-First : goal.returns-in-First

@@ -1,5 +1,4 @@
-use Rattle.std.proofs.Common.{sym, arith, rules}
-use Rattle.std.proofs.lemmas.Bool.Decides.{nat_tests}
+use Rattle.std.proofs.Common.{sym, rules}
 use Rattle.values.proofs.Steps.{falls, readable-next, elements-end}
 use Rattle.values.proofs.elements.are_readable.Goals as goal
 

@@ -1,4 +1,4 @@
-use Rattle.std.proofs.Common.{arith, rules}
+use Rattle.std.proofs.Common.{arith}
 use Rattle.std.proofs.lemmas.Bool.Decides.{nat_tests}
 use Rattle.values.proofs.Steps.{falls, sizes-next, sizes-end}
 use Rattle.values.proofs.elements.fill.Goals as goal

@@ -1,4 +1,4 @@
-use Rattle.std.proofs.Common.{◌≡◌, List, [], ◌++◌, sym, refl, ap, ◌∙◌, append_assoc}
+use Rattle.std.proofs.Common.{[], ◌++◌, sym, refl, ap, ◌∙◌, append_assoc}
 use Rattle.lent_bytes.proofs.Clips.{pushed_more, pushed_none, pushed-within}
 use Rattle.values.proofs.Steps.{falls}
 use Rattle.values.proofs.Commas.{listed_next, listed-end}

@@ -2,7 +2,7 @@ use Rattle.std.proofs.Common.{vec_items, sym, ◌∙◌, inr, arith}
 use Rattle.inspect.proofs.Pieces.{shorter}
 use Rattle.inspect.proofs.Readings.{string-into, string-byte, string-close, string-wrong, string-end}
 use Rattle.inspect.proofs.quoted.Quoted.behind_quote.Goals as goal
-use Rattle.inspect.proofs.quoted.Quoted.behind_quote.Goals.{in-Into, in-Byte+in_ok-push}
+use Rattle.inspect.proofs.quoted.Quoted.behind_quote.Goals.{in-Into, in-Byte+in_ok-push-in-Byte}
 
 pub returns-in-Close : goal.returns-in-Close
 returns-in-Close c =
@@ -15,7 +15,7 @@ loop-i-preserved c =
     let xs = c.args.text.now in let i = c.loop-i.i in let h = c.loop-i-test.true in let out = vec_items c.loop-i.bytes in
     elim c.match-step.branch [
       | in-Into w ↦ rw (w.place-is, w.bytes-is) (sym (string-into c.loop-i.place out xs i h w.in-Into.next w.in-Into.ensures) ∙ c.loop-i.invariant)
-      | in-Byte+in_ok-push w ↦ rw (w.place-is, w.bytes-is, w.in_ok-push.ensures.items) (sym (string-byte c.loop-i.place out xs i h w.in-Byte.b w.in-Byte.ensures) ∙ c.loop-i.invariant)
+      | in-Byte+in_ok-push-in-Byte w ↦ rw (w.place-is, w.bytes-is, w.in_ok-push-in-Byte.ensures.items) (sym (string-byte c.loop-i.place out xs i h w.in-Byte.b w.in-Byte.ensures) ∙ c.loop-i.invariant)
     ]
 
 pub returns-in-Wrong : goal.returns-in-Wrong
