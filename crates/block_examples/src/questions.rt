@@ -61,18 +61,18 @@ fn texts_and_rows(rt: HostRuntime) -> Result<(), Fail> {
     put_row(&mut m, 0, row);
     write(&mut m, 144, b"abcdefghi");
     let span = SdkSpan::of_ended(&m);
-    assert!(rt; span.name() == b"ab");
-    assert!(rt; span.trace_state() == b"bc");
-    assert!(rt; span.scope_name() == b"cd");
-    assert!(rt; span.scope_version() == b"de");
-    assert!(rt; span.description() == b"ef");
+    assert!(rt; span.name() == b"ab".as_slice());
+    assert!(rt; span.trace_state() == b"bc".as_slice());
+    assert!(rt; span.scope_name() == b"cd".as_slice());
+    assert!(rt; span.scope_version() == b"de".as_slice());
+    assert!(rt; span.description() == b"ef".as_slice());
     let Some(row) = span.row(0) else {
         return Err(Fail::new("no row"));
     };
     assert_eq!(rt; List::from_number(row.list), Some(List::Resource));
     assert_eq!(rt; row.kind, 3);
-    assert!(rt; row.key == b"ab");
-    assert!(rt; row.value == b"defg");
+    assert!(rt; row.key == b"ab".as_slice());
+    assert!(rt; row.value == b"defg".as_slice());
     assert_eq!(rt; row.time, 0);
     assert!(rt; span.row(1).is_none());
     Ok(())

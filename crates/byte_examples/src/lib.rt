@@ -13,12 +13,12 @@ mod tests {
 
     #[test]
     fn parts_end_with_the_memory(rt: HostRuntime) {
-        assert!(rt; part(b"abcdef", 1, 3) == b"bcd");
-        assert!(rt; part(b"abcdef", 4, 9) == b"ef");
-        assert!(rt; part(b"abcdef", 7, 1) == b"");
-        assert!(rt; part(b"abcdef", usize::MAX, usize::MAX) == b"");
-        assert!(rt; after(b"abcdef", 4) == b"ef");
-        assert!(rt; after(b"abcdef", 6) == b"");
+        assert!(rt; part(b"abcdef", 1, 3) == b"bcd".as_slice());
+        assert!(rt; part(b"abcdef", 4, 9) == b"ef".as_slice());
+        assert!(rt; part(b"abcdef", 7, 1) == b"".as_slice());
+        assert!(rt; part(b"abcdef", usize::MAX, usize::MAX) == b"".as_slice());
+        assert!(rt; after(b"abcdef", 4) == b"ef".as_slice());
+        assert!(rt; after(b"abcdef", 6) == b"".as_slice());
         assert_eq!(rt; byte(b"ab", 1), b'b');
         assert_eq!(rt; byte(b"ab", 2), 0);
     }
@@ -55,10 +55,10 @@ mod tests {
         put_u32(&mut m, 2, 0x06050403);
         put_u64(&mut m, 8, 0x0102);
         put_i64(&mut m, 16, -2);
-        assert!(rt; &m[0..10] == b"\x01\x02\x03\x04\x05\x06\0\0\x02\x01");
+        assert!(rt; &m[0..10] == b"\x01\x02\x03\x04\x05\x06\0\0\x02\x01".as_slice());
         assert_eq!(rt; i64_at(&m, 16), -2);
         put_u32(&mut m, 22, 0x06050403);
-        assert!(rt; &m[22..24] == b"\x03\x04");
+        assert!(rt; &m[22..24] == b"\x03\x04".as_slice());
     }
 
     #[test]
@@ -85,8 +85,8 @@ mod tests {
         let table: [&[u8]; 3] = [b"one", b"two", b"two"];
         assert!(rt; same(b"two", b"two"));
         assert!(rt; !same(b"two", b"twos"));
-        assert!(rt; text_at(&table, 0) == b"one");
-        assert!(rt; text_at(&table, 3) == b"");
+        assert!(rt; text_at(&table, 0) == b"one".as_slice());
+        assert!(rt; text_at(&table, 3) == b"".as_slice());
         assert_eq!(rt; index_of(&table, b"two"), Some(1));
         assert_eq!(rt; index_of(&table, b"tw"), None);
     }

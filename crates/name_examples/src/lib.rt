@@ -24,9 +24,18 @@ mod tests {
 
     #[test]
     fn spells_keys(rt: HostRuntime) {
-        assert_eq!(rt; attribute_keys::DATADOG_SERVICE.key(), b"datadog.service");
-        assert_eq!(rt; attribute_keys::SERVICE_VERSION.key(), b"service.version");
-        assert_eq!(rt; attribute_keys::DD_MEASURED.key(), b"_dd.measured");
+        assert_eq!(rt;
+            attribute_keys::DATADOG_SERVICE.key(),
+            b"datadog.service".as_slice()
+        );
+        assert_eq!(rt;
+            attribute_keys::SERVICE_VERSION.key(),
+            b"service.version".as_slice()
+        );
+        assert_eq!(rt;
+            attribute_keys::DD_MEASURED.key(),
+            b"_dd.measured".as_slice()
+        );
         assert_eq!(rt; attribute_keys::DD_MEASURED.place(), 42);
         assert_eq!(rt;
             attribute_keys::attribute_keys()[15],
@@ -251,8 +260,11 @@ mod tests {
 
     #[test]
     fn names_conventions(rt: HostRuntime) {
-        assert_eq!(rt; semconv::conventions()[2], b"http.response.status_code");
-        assert_eq!(rt; semconv::sampling_rate_key(), b"_dd1.sr.eausr");
+        assert_eq!(rt;
+            semconv::conventions()[2],
+            b"http.response.status_code".as_slice()
+        );
+        assert_eq!(rt; semconv::sampling_rate_key(), b"_dd1.sr.eausr".as_slice());
         assert_eq!(rt;
             semconv_shim::database_names()[1],
             semconv_shim::ATTRIBUTE_DB_SYSTEM_MSSQL
