@@ -57,6 +57,10 @@ unfoldable pub facts_from : List ℕ → ℕ → ℕ → List RowFact
 facts_from m i zero = []
 facts_from m i (suc n) = row_fact m i ∷ facts_from m (suc i) n
 
+-- the rows in order
+abbrev pub row_facts : List ℕ → List RowFact
+row_facts m = facts_from m 0 (rows_in m)
+
 pub record Facts : Type 0 where
   pub trace_high : ℕ
   pub trace_low : ℕ

@@ -5,3 +5,6 @@ pub mod First
 pub mod Facts
 pub mod Answers
 pub mod Lawful
+pub mod Projections
+pub mod Places
+pub mod Questions

@@ -1,13 +1,16 @@
 //! Reads of the header and of rows.
-ghost use Rattle.std.specs.Prelude.{◌≡◌};
+ghost use Rattle.std.specs.Prelude.{◌≡◌, ◌==◌};
+ghost use Rattle.blocks.specs.Lists.{list_number};
+ghost use Rattle.blocks.specs.Faults.{list_in};
 ghost use Rattle.blocks.specs.Layout.{text_in, offset_in, row_place, row_at, raw_of};
 
+use crate::lists::List;
 use lent_bytes::fields::{i64_at, u16_at, u32_at};
 use lent_bytes::memory::{after, byte, part};
 
 /// A row as it stands: lengths and places, no bytes.
 #[derive(Clone, Copy)]
-pub(crate) struct RawRow {
+pub struct RawRow {
     pub list: u8,
     pub kind: u8,
     pub key_length: u16,
@@ -18,7 +21,7 @@ pub(crate) struct RawRow {
 }
 
 /// The row with the number `i`.
-pub(crate) fn raw_row(block: &[u8], i: u16) -> RawRow
+pub fn raw_row(block: &[u8], i: u16) -> RawRow
     ensures { raw_of result ≡ row_at block.now (row_place i) }
 {
     let at = 120 + 24 * i as usize;
@@ -34,9 +37,16 @@ pub(crate) fn raw_row(block: &[u8], i: u16) -> RawRow
 }
 
 /// The text of `n` bytes at a place, which counts from the text offset.
-pub(crate) fn text(block: &[u8], place: u32, n: u32) -> &[u8]
+pub fn text(block: &[u8], place: u32, n: u32) -> &[u8]
     ensures { result.now ≡ text_in block.now place n }
 {
     let at = u32_at(block, 4) as usize + place as usize;
     part(block, at, n as usize)
+}
+
+/// Whether the row `i` is one of this list.
+pub fn is_in(block: &[u8], list: List, i: u16) -> bool
+    ensures { result ≡ (list_in block.now i == list_number list) }
+{
+    byte(block, 120 + 24 * i as usize) == list.number()
 }

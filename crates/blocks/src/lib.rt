@@ -4,9 +4,12 @@
 mod counts;
 pub mod faults;
 mod frame;
-mod layout;
+pub mod layout;
+mod link_ids;
 pub mod lists;
+pub mod questions;
 pub mod row;
 mod rows;
 pub mod sdk_span;
+mod search;
 pub mod span_kind;

@@ -1,7 +1,7 @@
 //! The lists that rows belong to.
 ghost use Rattle.std.specs.Prelude.{◌≡◌, if◌then◌else◌, Some, None, nat_lt};
 ghost use Rattle.std.specs.Option.{option_map};
-ghost use Rattle.blocks.specs.Lists.{list_number, list_of};
+ghost use Rattle.blocks.specs.Lists.{list_number, list_of, plain_number};
 
 /// The list that a row belongs to.
 #[derive(Clone, Copy, PartialEq, Eq, Debug)]
@@ -38,5 +38,26 @@ impl List {
         ensures { result ≡ list_number self }
     {
         self as u8
+    }
+}
+
+/// The lists of attributes that belong to no event or link.
+#[derive(Clone, Copy, PartialEq, Eq, Debug)]
+pub enum PlainList {
+    Span,
+    Resource,
+    Scope,
+}
+
+impl PlainList {
+    /// The list that this is.
+    pub fn list(self) -> List
+        ensures { list_number result ≡ plain_number self }
+    {
+        match self {
+            PlainList::Span => List::Span,
+            PlainList::Resource => List::Resource,
+            PlainList::Scope => List::Scope,
+        }
     }
 }

@@ -14,6 +14,15 @@ pub struct Row<'a> {
     pub time: i64,
 }
 
+/// What a link points to, and its flags.
+#[derive(Clone, Copy, PartialEq, Eq, Debug)]
+pub struct LinkIds {
+    pub trace_id_high: u64,
+    pub trace_id_low: u64,
+    pub span_id: u64,
+    pub flags: u8,
+}
+
 /// The row with the number `i`, whatever stands there.
 pub(crate) fn row_at(block: &[u8], i: u16) -> Row<'_>
     ensures { fact_of result ≡ row_fact block.now i }

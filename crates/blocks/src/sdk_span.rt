@@ -20,7 +20,7 @@ use lent_bytes::memory::byte;
 /// An ended span, over the block that holds it.
 #[derive(Clone, Copy)]
 pub struct SdkSpan<'a> {
-    block: &'a [u8],
+    pub(crate) block: &'a [u8],
 }
 
 /// The ended span in a block, or the first fault: of the block as a whole, of its header texts, of its

@@ -1,0 +1,38 @@
+-- Where the rows of a list stand, as the code looks for them.
+use Rattle.std.specs.Prelude.{ℕ, ◌-◌, Bool, cond, List, map, filter, ◌==◌}
+use Rattle.std.specs.List.{range_with_len}
+use Rattle.blocks.specs.declared.search.Owner.{Owner}
+use Rattle.blocks.specs.declared.search.Owner.TheVariants.{Event, Link}
+use Rattle.blocks.specs.declared.search.Run.{Run}
+use Rattle.blocks.specs.Layout.{rows_in}
+use Rattle.blocks.specs.Faults.{list_in}
+use Rattle.blocks.specs.Facts.{RowFact, row_fact}
+use Rattle.blocks.specs.Projections.{Owned}
+
+abbrev pub is_of : List ℕ → ℕ → ℕ → Bool
+is_of m l i = list_in m i == l
+
+-- the numbers of the rows of a list, of n rows from the i-th on
+unfoldable pub places_of : List ℕ → ℕ → ℕ → ℕ → List ℕ
+places_of m l i n = filter (is_of m l) (range_with_len i n)
+
+-- the rows of a run
+unfoldable pub rows_from : List ℕ → ℕ → ℕ → List RowFact
+rows_from m i n = map (row_fact m) (range_with_len i n)
+
+abbrev pub all_rows : List ℕ → Run
+all_rows m = record { from = 0; to = rows_in m }
+
+abbrev pub run_rows : List ℕ → Run → List RowFact
+run_rows m r = rows_from m r.from (r.to - r.from)
+
+abbrev pub owner_list : Owner → ℕ
+owner_list Event = 3
+owner_list Link = 5
+
+abbrev pub owned_list : Owner → ℕ
+owned_list Event = 4
+owned_list Link = 6
+
+abbrev pub attributes_of : Owned → List RowFact
+attributes_of o = o.attributes
