@@ -108,7 +108,7 @@ value-by : (n : ℕ) (b : List ℕ) (o : Option Datum) → value_of n b ≡ o �
 value-by n b None e h f = some-none Form f
 value-by n b (Some d) e h f = let c = (datum-clean d).0 f in (d, written_back n b d h e, c.0, c.1)
 
-value-clean : (n : ℕ) (b : List ℕ) → Bytes b → Clean (value_fault n b) (ValueLawful n b)
+pub value-clean : (n : ℕ) (b : List ℕ) → Bytes b → Clean (value_fault n b) (ValueLawful n b)
 value-clean n b h = (value-by n b (value_of n b) refl h, λ v. ap datum_fault (read_back n b v.0 v.1) ∙ (datum-clean v.0).1 (v.2, v.3))
 
 -- lists: nothing begins a new run of events or of links, so each of them that stands above is counted
@@ -118,13 +118,13 @@ neither true false = refl
 neither false true = refl
 neither false false = refl
 
-abbrev Unowned : ℕ → Type 0
+abbrev pub Unowned : ℕ → Type 0
 Unowned l = (r : ℕ) → owns r l ≡ false
 
-events-unowned : Unowned 3
+pub events-unowned : Unowned 3
 events-unowned r = neither (eqb r 3) (eqb r 5)
 
-links-unowned : Unowned 5
+pub links-unowned : Unowned 5
 links-unowned r = neither (eqb r 3) (eqb r 5)
 
 above-here : (m : List ℕ) (l i : ℕ) → Unowned l → list_in m i ≡ l → above m l (suc i) ≡ above m l i + 1
@@ -135,10 +135,10 @@ above-else : (m : List ℕ) (l i : ℕ) → Unowned l → (list_in m i ≡ l →
 unfolding above
 above-else m l i n e = rw (n (list_in m i), ne_eqb (list_in m i) l e)
 
-abbrev StandsAbove : List ℕ → ℕ → ℕ → Type 0
+abbrev pub StandsAbove : List ℕ → ℕ → ℕ → Type 0
 StandsAbove m l i = (j : ℕ) × (j < i) × (list_in m j ≡ l)
 
-counted-stands : (m : List ℕ) (l i : ℕ) → Unowned l → (above m l i ≡ 0 → ⊥) → StandsAbove m l i
+pub counted-stands : (m : List ℕ) (l i : ℕ) → Unowned l → (above m l i ≡ 0 → ⊥) → StandsAbove m l i
 unfolding above
 counted-stands m l zero n h = absurd (h refl)
 counted-stands m l (suc i) n h =

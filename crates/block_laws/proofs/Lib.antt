@@ -1,0 +1,4 @@
+pub mod Kept
+pub mod Sound
+pub mod Listed
+pub mod Covering

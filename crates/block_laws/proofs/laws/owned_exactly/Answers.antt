@@ -1,0 +1,5 @@
+use Rattle.block_laws.proofs.Covering as covering
+use Rattle.block_laws.proofs.laws.owned_exactly.Goals as goal
+
+pub returns : goal.returns
+returns c = covering.owned-exactly
