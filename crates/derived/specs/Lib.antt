@@ -1,0 +1,4 @@
+pub mod OperationName
+pub mod ResourceName
+pub mod DatabaseTypes
+pub mod Fields

@@ -1,0 +1,93 @@
+//! The six fields of a Datadog span that are derived from a reading. Datadog's own attributes come
+//! before what the other attributes say.
+ghost use Rattle.std.specs.Prelude.{◌≡◌};
+ghost use Rattle.readers.specs.Texts.{Filled, Offered};
+ghost use Rattle.derived.specs.Fields.{own_text, field_name, field_resource, field_type, field_service, field_environment, field_status_code};
+
+use crate::operation_name::get_otel_operation_name_v2;
+use crate::resource_name::get_otel_resource_v2;
+use crate::span_fields::{
+    code_under, get_otel_env, get_otel_service, get_otel_span_type, get_otel_status_code,
+};
+use crate::texts::compose;
+use names::attribute_keys::*;
+use readers::otel_util::{OtelSpan, get_attr_str};
+use readers::texts::front;
+
+/// A span's text in the larger memory, if it is not empty; else the memory is as it was.
+fn own_text<S: OtelSpan>(span: &S, key: AttributeKey, out: &mut [u8; 8200]) -> Option<usize>
+    ensures { Offered 8200 (own_text (S.OtelSpan.reading span.now) key.idx) result out.old out.new }
+{
+    if !span.has_attr(key) {
+        return None;
+    }
+    let mut text = [0u8; 4096];
+    let n = get_attr_str(span, key, &mut text);
+    if n == 0 {
+        return None;
+    }
+    Some(compose(out, b"", b"", b"", front(&text, n)))
+}
+
+/// The name.
+pub fn datadog_name<S: OtelSpan>(span: &S, out: &mut [u8; 8200]) -> usize
+    ensures { Filled 8200 (field_name (S.OtelSpan.reading span.now)) result out.new }
+{
+    match own_text(span, DATADOG_NAME, out) {
+        Some(n) => n,
+        None => get_otel_operation_name_v2(span, out),
+    }
+}
+
+/// The resource.
+pub fn datadog_resource<S: OtelSpan>(span: &S, out: &mut [u8; 8200]) -> usize
+    ensures { Filled 8200 (field_resource (S.OtelSpan.reading span.now)) result out.new }
+{
+    match own_text(span, DATADOG_RESOURCE, out) {
+        Some(n) => n,
+        None => get_otel_resource_v2(span, out),
+    }
+}
+
+/// The type.
+pub fn datadog_type<S: OtelSpan>(span: &S, out: &mut [u8; 4096]) -> usize
+    ensures { Filled 4096 (field_type (S.OtelSpan.reading span.now)) result out.new }
+{
+    let n = get_attr_str(span, DATADOG_TYPE, out);
+    if n > 0 {
+        return n;
+    }
+    get_otel_span_type(span, out)
+}
+
+/// The service.
+pub fn datadog_service<S: OtelSpan>(span: &S, out: &mut [u8; 4096]) -> usize
+    ensures { Filled 4096 (field_service (S.OtelSpan.reading span.now)) result out.new }
+{
+    let n = get_attr_str(span, DATADOG_SERVICE, out);
+    if n > 0 {
+        return n;
+    }
+    get_otel_service(span, out)
+}
+
+/// The environment; the empty text is none.
+pub fn datadog_env<S: OtelSpan>(span: &S, out: &mut [u8; 4096]) -> usize
+    ensures { Filled 4096 (field_environment (S.OtelSpan.reading span.now)) result out.new }
+{
+    let n = get_attr_str(span, DATADOG_ENV, out);
+    if n > 0 {
+        return n;
+    }
+    get_otel_env(span, out)
+}
+
+/// The status code of an HTTP response; 0 is none.
+pub fn datadog_status_code<S: OtelSpan>(span: &S) -> u32
+    ensures { result ≡ field_status_code (S.OtelSpan.reading span.now) }
+{
+    match code_under(span, DATADOG_HTTP_STATUS_CODE) {
+        Some(code) => code,
+        None => get_otel_status_code(span).unwrap_or(0),
+    }
+}

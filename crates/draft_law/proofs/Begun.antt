@@ -1,0 +1,361 @@
+-- A draft that has started: sound, with the facts that the start says and no rows.
+use Rattle.std.proofs.Common.{◌≡◌, ℕ, ◌+◌, ◌*◌, ◌%◌, ◌^◌, ◌<◌, ◌≤◌, Bool, true, false, cond, ◌&&◌, leb, ◌⊎◌, List, [], ◌∷◌, ◌++◌, map, length, get_or, replicate, ℤ, pos, Some, None, IsUtf8, sym, refl, ap, ◌∙◌, subst, inl, inr, ⊎_elim, arith, lit<, w64, SFits, rules}
+use Rattle.std.specs.List.{range_with_len}
+use Rattle.std.specs.Option.{option_map}
+use Rattle.std.proofs.lemmas.Bool.{cases_eq, and_parts, leb-true}
+use Rattle.std.proofs.lemmas.List.{places, same_lists, length-append, length-replicate}
+use Rattle.lent_bytes.specs.Memory.{Bytes, portion, written}
+use Rattle.lent_bytes.specs.Fields.{u16_in, u32_in, i64_in, id_in, le8, be8, bytes8}
+use Rattle.lent_bytes.proofs.Frames.{length-written, le2-bytes2, le4-bytes4, le8-bytes8, int8-ints8}
+use Rattle.blocks.specs.Layout.{version_in, rows_in, offset_in, capacity_in, kind_in, status_in, used_in, text_in, place_in, length_in, row_place}
+use Rattle.blocks.specs.Facts.{Facts, RowFact, facts, header_text, row_fact, row_facts, span_kind_of, status_of}
+use Rattle.blocks.specs.Lawful.{TextLawful}
+use Rattle.blocks.specs.First.{or_else}
+use Rattle.blocks.specs.declared.span_kind.StatusCode.TheVariants.{Unset}
+use Rattle.drafts.specs.declared.refusal.StartFault.TheVariants.{Kind, Memory, Text as StartText, NoRoom as StartNoRoom}
+use Rattle.drafts.specs.Calls.{Opening, SizedOpening}
+use Rattle.drafts.specs.Writes.{id_bytes, opening_texts, head_bytes, started}
+use Rattle.drafts.specs.Memory.{text_refusal, start_texts, start_memory, start_fault}
+use Rattle.block_laws.proofs.Kept.{Kept, byte-kept, byte-place, u16-kept, u16-place, u32-kept, u32-place, i64-kept, i64-place, id-kept, id-place, portion-place, behind, portion-first, portion-whole}
+use Rattle.block_laws.proofs.Sound.{Sound, Head, longest}
+use Rattle.draft_law.proofs.Octets.{low, bytes_of, bytes-append, bytes-written, zeros, bytes-zeros}
+use Rattle.draft_law.proofs.Accepted.{or-none, else-none, mapped-none, text-tells}
+use Rattle.blocks.proofs.Projected.{rows_mapped}
+
+-- what a start that is not refused has been found to meet
+pub record StartTells (n : ℕ) (o : Opening) : Type 0 where
+  pub first_kind : 1 ≤ o.kind
+  pub last-kind : o.kind ≤ 5
+  pub least : 120 ≤ n
+  pub most : n ≤ 65536
+  pub capacity : o.capacity ≤ 1024
+  pub rows : row_place o.capacity ≤ n
+  pub name : (length o.name ≤ 255) × IsUtf8 o.name
+  pub trace-state : (length o.trace_state ≤ 512) × IsUtf8 o.trace_state
+  pub scope-name : (length o.scope_name ≤ 255) × IsUtf8 o.scope_name
+  pub scope-version : (length o.scope_version ≤ 255) × IsUtf8 o.scope_version
+  pub texts : row_place o.capacity + length (opening_texts o) ≤ n
+
+pub start-tells : (n : ℕ) (o : Opening) → start_fault n o ≡ None → StartTells n o
+start-tells n o h =
+    let a = else-none (leb 1 o.kind && leb o.kind 5) _ Kind h in
+    let b = else-none (start_memory n o.capacity) _ Memory a.1 in
+    let c = or-none (option_map StartText (start_texts o)) _ b.1 in
+    let d = else-none (leb (row_place o.capacity + length (opening_texts o)) n) None StartNoRoom c.1 in
+    let k = and_parts (leb 1 o.kind) _ a.0 in
+    let m1 = and_parts (leb 120 n) _ b.0 in
+    let m2 = and_parts (leb n 65536) _ m1.1 in
+    let m3 = and_parts (leb o.capacity 1024) _ m2.1 in
+    let t1 = or-none (text_refusal 255 o.name) _ (mapped-none StartText _ c.0) in
+    let t2 = or-none (text_refusal 512 o.trace_state) _ t1.1 in
+    let t3 = or-none (text_refusal 255 o.scope_name) _ t2.1 in
+    record {
+      first_kind = leb-true _ _ k.0;
+      last-kind = leb-true _ _ k.1;
+      least = leb-true _ _ m1.0;
+      most = leb-true _ _ m2.0;
+      capacity = leb-true _ _ m3.0;
+      rows = leb-true _ _ m3.1;
+      name = text-tells 255 o.name t1.0;
+      trace-state = text-tells 512 o.trace_state t2.0;
+      scope-name = text-tells 255 o.scope_name t3.0;
+      scope-version = text-tells 255 o.scope_version t3.1;
+      texts = leb-true _ _ d.0;
+    }
+
+-- a part behind the first text
+portion-skip : (a r : List ℕ) (q p k : ℕ) → q ≡ length a + p → portion (a ++ r) q k ≡ portion r p k
+unfolding portion
+portion-skip a r q p k h = same_lists _ _ (search (rules, places)) (λ i d l. grind (arith, places))
+
+-- an id, from its bytes
+be8-id : (v : ℕ) → v < 2 ^ 64 → be8 (id_bytes v) ≡ v
+be8-id v h = let e = le8-bytes8 v h in omega arith
+
+-- the five places of header texts
+head-cases : (P : ℕ → Type 0) → P 80 → P 88 → P 96 → P 104 → P 112 → (h : ℕ) → Head h → P h
+head-cases P a b c d e h hd =
+    let low = hd.0 in let high = hd.1.0 in let eighth = hd.1.1 in
+    ⊎_elim (λ (x : h ≡ 80). subst P (sym x) a) (λ (n1 : h ≡ 80 → ⊥).
+    ⊎_elim (λ (x : h ≡ 88). subst P (sym x) b) (λ (n2 : h ≡ 88 → ⊥).
+    ⊎_elim (λ (x : h ≡ 96). subst P (sym x) c) (λ (n3 : h ≡ 96 → ⊥).
+    ⊎_elim (λ (x : h ≡ 104). subst P (sym x) d) (λ (n4 : h ≡ 104 → ⊥). let x : h ≡ 112 = grind arith in subst P (sym x) e)
+    (cases_eq h 104)) (cases_eq h 96)) (cases_eq h 88)) (cases_eq h 80)
+
+module _ (n : ℕ) (o : Opening) (sz : SizedOpening o) (ok : StartTells n o) where
+  abbrev hd : List ℕ
+  hd = head_bytes o
+
+  abbrev ts : List ℕ
+  ts = opening_texts o
+
+  abbrev c : ℕ
+  c = o.capacity
+
+  abbrev h : List ℕ
+  h = written (zeros n) 0 hd
+
+  abbrev s : List ℕ
+  s = written h (row_place c) ts
+
+  abbrev la : ℕ
+  la = length o.name
+
+  abbrev lb : ℕ
+  lb = length o.trace_state
+
+  abbrev lc : ℕ
+  lc = length o.scope_name
+
+  abbrev ld : ℕ
+  ld = length o.scope_version
+
+  wide : length hd ≡ 120
+  wide = refl
+
+  all : length ts ≡ la + (lb + (lc + ld))
+  all = length-append o.name _ ∙ ap (λ x. la + x) (length-append o.trace_state _ ∙ ap (λ x. lb + x) (length-append o.scope_name o.scope_version))
+
+  size-h : length h ≡ n
+  size-h = length-written (zeros n) 0 hd ∙ length-replicate {A = ℕ} n 0
+
+  size : length s ≡ n
+  size = length-written h _ ts ∙ size-h
+
+  fit : 0 + length hd ≤ length (zeros n)
+  fit = omega (arith, wide, length-replicate {A = ℕ} n 0, ok.least)
+
+  front : Kept h s 0 120
+  front = behind h (row_place c) ts 0 120 (omega arith)
+
+  byte-is : (a : ℕ) → a + 1 ≤ 120 → get_or s a 0 ≡ get_or hd a 0
+  byte-is a l = byte-kept h s 0 120 front a (omega arith) l ∙ byte-place (zeros n) 0 hd a a (omega arith) fit (omega (arith, wide))
+
+  u16-is : (a : ℕ) → a + 2 ≤ 120 → u16_in s a ≡ u16_in hd a
+  u16-is a l = u16-kept h s 0 120 front a (omega arith) l ∙ u16-place (zeros n) 0 hd a a (omega arith) fit (omega (arith, wide))
+
+  u32-is : (a : ℕ) → a + 4 ≤ 120 → u32_in s a ≡ u32_in hd a
+  u32-is a l = u32-kept h s 0 120 front a (omega arith) l ∙ u32-place (zeros n) 0 hd a a (omega arith) fit (omega (arith, wide))
+
+  i64-is : (a : ℕ) → a + 8 ≤ 120 → i64_in s a ≡ i64_in hd a
+  i64-is a l = i64-kept h s 0 120 front a (omega arith) l ∙ i64-place (zeros n) 0 hd a a (omega arith) fit (omega (arith, wide))
+
+  id-is : (a : ℕ) → a + 8 ≤ 120 → id_in s a ≡ id_in hd a
+  id-is a l = id-kept h s 0 120 front a (omega arith) l ∙ id-place (zeros n) 0 hd a a (omega arith) fit (omega (arith, wide))
+
+  version : version_in s ≡ 1
+  unfolding portion
+  version = u16-is 0 (omega arith)
+
+  rows : rows_in s ≡ 0
+  unfolding portion
+  rows = u16-is 2 (omega arith)
+
+  offset : offset_in s ≡ row_place c
+  unfolding portion
+  offset = u32-is 4 (omega arith) ∙ le4-bytes4 (row_place c) (omega (arith, ok.capacity))
+
+  capacity : capacity_in s ≡ c
+  unfolding portion
+  capacity = u16-is 8 (omega arith) ∙ le2-bytes2 c sz.capacity
+
+  kind : kind_in s ≡ o.kind
+  kind = byte-is 10 (omega arith)
+
+  status : status_in s ≡ 0
+  status = byte-is 11 (omega arith)
+
+  short : la + (lb + (lc + ld)) ≤ 65536
+  short = omega (arith, all, ok.texts, ok.most)
+
+  used : used_in s ≡ la + (lb + (lc + ld))
+  unfolding portion
+  used = u32-is 12 (omega arith) ∙ le4-bytes4 (la + (lb + (lc + ld))) (omega (arith, short))
+
+  trace-high : id_in s 16 ≡ o.trace_high
+  unfolding portion
+  trace-high = id-is 16 (omega arith) ∙ be8-id o.trace_high sz.trace-high
+
+  trace-low : id_in s 24 ≡ o.trace_low
+  unfolding portion
+  trace-low = id-is 24 (omega arith) ∙ be8-id o.trace_low sz.trace-low
+
+  span-id : id_in s 32 ≡ o.span_id
+  unfolding portion
+  span-id = id-is 32 (omega arith) ∙ be8-id o.span_id sz.span-id
+
+  parent-id : id_in s 40 ≡ o.parent_id
+  unfolding portion
+  parent-id = id-is 40 (omega arith) ∙ be8-id o.parent_id sz.parent-id
+
+  start : i64_in s 48 ≡ o.start
+  unfolding portion
+  start = i64-is 48 (omega arith) ∙ int8-ints8 o.start sz.start
+
+  -- the texts, one after another
+  text_at : (p k : ℕ) → p + k ≤ length ts → text_in s p k ≡ portion ts p k
+  text_at p k l = ap (λ x. portion s (x + p) k) offset ∙ portion-place h (row_place c) ts (row_place c + p) p refl (omega (arith, size-h, ok.texts)) k l
+
+  -- a header text whose place and length were written
+  module _ (at p k most : ℕ) (t : List ℕ) (is-p : place_in s at ≡ p) (is-k : length_in s at ≡ k) (inside : p + k ≤ length ts) (is : portion ts p k ≡ t) where
+    text-is : header_text s at ≡ t
+    text-is = (λ i. text_in s (is-p i) (is-k i)) ∙ text_at p k inside ∙ is
+
+    text-lawful : k ≤ most → IsUtf8 t → TextLawful s (place_in s at) (length_in s at) most
+    text-lawful m u =
+        let it : TextLawful s p k most = record { short = m; inside = omega (arith, inside, all, used); utf8 = subst IsUtf8 (sym (text_at p k inside ∙ is)) u } in
+        subst (λ x. TextLawful s x (length_in s at) most) (sym is-p) (subst (λ x. TextLawful s p x most) (sym is-k) it)
+
+  place_is : (a v : ℕ) → a + 4 ≤ 120 → u32_in hd a ≡ v → u32_in s a ≡ v
+  place_is a v l e = u32-is a l ∙ e
+
+  four-80 : u32_in s 80 ≡ 0
+  unfolding portion
+  four-80 = u32-is 80 (omega arith)
+
+  four-84 : u32_in s 84 ≡ la
+  unfolding portion
+  four-84 = u32-is 84 (omega arith) ∙ le4-bytes4 la (omega (arith, short))
+
+  four-88 : u32_in s 88 ≡ la
+  unfolding portion
+  four-88 = u32-is 88 (omega arith) ∙ le4-bytes4 la (omega (arith, short))
+
+  four-92 : u32_in s 92 ≡ lb
+  unfolding portion
+  four-92 = u32-is 92 (omega arith) ∙ le4-bytes4 lb (omega (arith, short))
+
+  four-96 : u32_in s 96 ≡ la + lb
+  unfolding portion
+  four-96 = u32-is 96 (omega arith) ∙ le4-bytes4 (la + lb) (omega (arith, short))
+
+  four-100 : u32_in s 100 ≡ lc
+  unfolding portion
+  four-100 = u32-is 100 (omega arith) ∙ le4-bytes4 lc (omega (arith, short))
+
+  four-104 : u32_in s 104 ≡ la + (lb + lc)
+  unfolding portion
+  four-104 = u32-is 104 (omega arith) ∙ le4-bytes4 (la + (lb + lc)) (omega (arith, short))
+
+  four-108 : u32_in s 108 ≡ ld
+  unfolding portion
+  four-108 = u32-is 108 (omega arith) ∙ le4-bytes4 ld (omega (arith, short))
+
+  four-112 : u32_in s 112 ≡ 0
+  unfolding portion
+  four-112 = u32-is 112 (omega arith)
+
+  four-116 : u32_in s 116 ≡ 0
+  unfolding portion
+  four-116 = u32-is 116 (omega arith)
+
+  part-name : portion ts 0 la ≡ o.name
+  part-name = portion-first o.name _
+
+  part-state : portion ts la lb ≡ o.trace_state
+  part-state = portion-skip o.name _ la 0 lb (omega arith) ∙ portion-first o.trace_state _
+
+  part-scope : portion ts (la + lb) lc ≡ o.scope_name
+  part-scope = portion-skip o.name _ (la + lb) lb lc refl ∙ portion-skip o.trace_state _ lb 0 lc (omega arith) ∙ portion-first o.scope_name _
+
+  part-version : portion ts (la + (lb + lc)) ld ≡ o.scope_version
+  part-version = portion-skip o.name _ (la + (lb + lc)) (lb + lc) ld refl ∙ portion-skip o.trace_state _ (lb + lc) lc ld refl ∙ portion-skip o.scope_name _ lc 0 ld (omega arith) ∙ portion-whole o.scope_version
+
+  part_none : portion ts 0 0 ≡ []
+  unfolding portion
+  part_none = refl
+
+  bytes-head : Bytes hd
+  bytes-head = let k = sz.kind in bytes_of hd (lit< tt, (lit< tt, (lit< tt, (lit< tt, (low _, (low _, (low _, (low _, (low _, (low _, (k, (lit< tt, (low _, (low _, (low _, (low _, (low _, (low _, (low _, (low _, (low _, (low _, (low _, (low _, (low _, (low _, (low _, (low _, (low _, (low _, (low _, (low _, (low _, (low _, (low _, (low _, (low _, (low _, (low _, (low _, (low _, (low _, (low _, (low _, (low _, (low _, (low _, (low _, (low _, (low _, (low _, (low _, (low _, (low _, (low _, (low _, (lit< tt, (lit< tt, (lit< tt, (lit< tt, (lit< tt, (lit< tt, (lit< tt, (lit< tt, (lit< tt, (lit< tt, (lit< tt, (lit< tt, (lit< tt, (lit< tt, (lit< tt, (lit< tt, (lit< tt, (lit< tt, (lit< tt, (lit< tt, (lit< tt, (lit< tt, (lit< tt, (lit< tt, (lit< tt, (lit< tt, (lit< tt, (lit< tt, (low _, (low _, (low _, (low _, (low _, (low _, (low _, (low _, (low _, (low _, (low _, (low _, (low _, (low _, (low _, (low _, (low _, (low _, (low _, (low _, (low _, (low _, (low _, (low _, (low _, (low _, (low _, (low _, (lit< tt, (lit< tt, (lit< tt, (lit< tt, (lit< tt, (lit< tt, (lit< tt, (lit< tt, tt))))))))))))))))))))))))))))))))))))))))))))))))))))))))))))))))))))))))))))))))))))))))))))))))))))))))))))))))))))))))
+
+  begun-sound : Sound s
+  begun-sound =
+      record {
+        bytes = bytes-written h _ ts (bytes-written (zeros n) 0 hd (bytes-zeros n) bytes-head) (bytes-append o.name _ sz.name (bytes-append o.trace_state _ sz.trace-state (bytes-append o.scope_name o.scope_version sz.scope-name sz.scope-version)));
+        small = omega (arith, size, ok.most);
+        version = version;
+        first_kind = omega (arith, kind, ok.first_kind);
+        last-kind = omega (arith, kind, ok.last-kind);
+        status = omega (arith, status);
+        zero-77 = byte-is 77 (omega arith);
+        zero-78 = byte-is 78 (omega arith);
+        zero-79 = byte-is 79 (omega arith);
+        capacity = omega (arith, capacity, ok.capacity);
+        rows = omega (arith, rows);
+        offset = offset ∙ ap row_place (sym capacity);
+        used = omega (arith, offset, used, size, ok.texts, all);
+        heads = head-cases (λ a. TextLawful s (place_in s a) (length_in s a) (longest a))
+            (text-lawful 80 0 la 255 o.name four-80 four-84 (omega (arith, all)) part-name ok.name.0 ok.name.1)
+            (text-lawful 88 la lb 512 o.trace_state four-88 four-92 (omega (arith, all)) part-state ok.trace-state.0 ok.trace-state.1)
+            (text-lawful 96 (la + lb) lc 255 o.scope_name four-96 four-100 (omega (arith, all)) part-scope ok.scope-name.0 ok.scope-name.1)
+            (text-lawful 104 (la + (lb + lc)) ld 255 o.scope_version four-104 four-108 (omega (arith, all)) part-version ok.scope-version.0 ok.scope-version.1)
+            (text-lawful 112 0 0 1024 [] four-112 four-116 (omega arith) part_none (omega arith) ([], (refl, refl)));
+        each = λ i lt. absurd (omega (arith, rows));
+      }
+
+  no_rows : row_facts s ≡ []
+  no_rows = rows_mapped s ∙ ap (λ k. map (row_fact s) (range_with_len 0 k)) rows
+
+  begun-facts : (t : ℤ) → i64_in s 56 ≡ t
+      → facts s ≡ record {
+        trace_high = o.trace_high;
+        trace_low = o.trace_low;
+        span_id = o.span_id;
+        parent_id = o.parent_id;
+        start = o.start;
+        finish = t;
+        kind = span_kind_of o.kind;
+        status = Unset;
+        name = o.name;
+        trace_state = o.trace_state;
+        scope_name = o.scope_name;
+        scope_version = o.scope_version;
+        description = [];
+        rows = [];
+      }
+  begun-facts t f =
+      let st = ap status_of status in
+      let na = text-is 80 0 la 255 o.name four-80 four-84 (omega (arith, all)) part-name in
+      let tr = text-is 88 la lb 512 o.trace_state four-88 four-92 (omega (arith, all)) part-state in
+      let sn = text-is 96 (la + lb) lc 255 o.scope_name four-96 four-100 (omega (arith, all)) part-scope in
+      let sv = text-is 104 (la + (lb + lc)) ld 255 o.scope_version four-104 four-108 (omega (arith, all)) part-version in
+      let de = text-is 112 0 0 1024 [] four-112 four-116 (omega arith) part_none in
+      λ i. record {
+        trace_high = trace-high i;
+        trace_low = trace-low i;
+        span_id = span-id i;
+        parent_id = parent-id i;
+        start = start i;
+        finish = f i;
+        kind = span_kind_of (kind i);
+        status = st i;
+        name = na i;
+        trace_state = tr i;
+        scope_name = sn i;
+        scope_version = sv i;
+        description = de i;
+        rows = no_rows i;
+      }
+
+  pub start-sound : Sound (started n o)
+  unfolding started
+  start-sound = begun-sound
+
+  pub start-facts : facts (started n o) ≡ record {
+    trace_high = o.trace_high;
+    trace_low = o.trace_low;
+    span_id = o.span_id;
+    parent_id = o.parent_id;
+    start = o.start;
+    finish = i64_in (started n o) 56;
+    kind = span_kind_of o.kind;
+    status = Unset;
+    name = o.name;
+    trace_state = o.trace_state;
+    scope_name = o.scope_name;
+    scope_version = o.scope_version;
+    description = [];
+    rows = [];
+  }
+  unfolding started
+  start-facts = begun-facts _ refl

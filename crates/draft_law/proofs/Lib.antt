@@ -1,0 +1,14 @@
+mod Rowed
+mod Headed
+mod Octets
+mod Tagged
+mod Told
+mod Said
+mod Replaced
+mod Renamed
+mod Accepted
+mod Follow
+mod Past
+mod Begun
+mod Closed
+mod Final

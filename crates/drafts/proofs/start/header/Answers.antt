@@ -1,0 +1,7 @@
+use Rattle.std.proofs.Common.{◌≡◌, rules}
+use Rattle.drafts.specs.Calls.{opening_of}
+use Rattle.drafts.proofs.Started.{head-is}
+use Rattle.drafts.proofs.start.header.Goals as goal
+
+pub returns : goal.returns
+returns c = let h = head-is (opening_of c.args.start.now) in cc

@@ -1,0 +1,5 @@
+use Rattle.std.proofs.Common.{◌≡◌, sym, refl, arith, length-append, rules}
+use Rattle.drafts.proofs.start.texts_len.Goals as goal
+
+pub returns : goal.returns
+returns c = record { sum = simp length-append; small = search rules }

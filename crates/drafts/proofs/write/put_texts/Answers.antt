@@ -1,0 +1,6 @@
+use Rattle.std.proofs.Common.{arith, rules}
+use Rattle.lent_bytes.proofs.Frames.{written-append}
+use Rattle.drafts.proofs.write.put_texts.Goals as goal
+
+pub returns : goal.returns
+returns c = search (rules, written-append)

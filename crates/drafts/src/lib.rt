@@ -1,0 +1,12 @@
+//! Drafts: spans that are built in lent memory, call by call.
+#![tactic(auto)]
+
+pub mod call;
+mod calls;
+mod checks;
+pub mod draft;
+pub mod refusal;
+mod rows;
+pub mod start;
+pub mod typed;
+mod write;

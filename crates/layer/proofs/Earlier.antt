@@ -1,0 +1,44 @@
+-- An earlier name in the memory to which a later one was read.
+use Rattle.std.proofs.Common.{◌≡◌, ℕ, ◌≤◌, Bool, true, cond, List, length, Some, None, Option, sym, refl, ap, ◌∙◌, arith}
+use Rattle.std.specs.Option.{option_map}
+use Rattle.lent_bytes.specs.Memory.{clip, portion, padded, Placed}
+use Rattle.lent_bytes.proofs.Clips.{clip-all}
+use Rattle.readers.specs.Reading.{Known, text_of, bytes_of, size_of}
+use Rattle.readers.specs.Tables.{entry_for}
+use Rattle.readers.specs.Texts.{Filled}
+use Rattle.readers.proofs.Entries.{or_some, entry-within}
+use Rattle.readers.proofs.Fronts.{portion-padded}
+use Rattle.layer.specs.Later.{later_names, earlier_text, earlier_known}
+
+pub placed : (t u x : List ℕ) (w r : ℕ) (out : List ℕ) → w ≡ 4096 → u ≡ t → Some x ≡ entry_for u later_names → Placed w x r out → Filled 4096 (earlier_text t) r out
+placed t u x w r out ew eu d p =
+    let e : Some x ≡ entry_for t later_names = d ∙ ap (λ v. entry_for v later_names) eu in
+    let s : length x ≤ 4096 = entry-within 4096 t later_names x refl e in
+    let k : clip w x ≡ x = clip-all w x (omega arith) in
+    let i : x ≡ earlier_text t = or_some (entry_for t later_names) x t e in
+    record { len = p.len ∙ ap length (k ∙ i); text = p.text ∙ ap (padded w) (k ∙ i) ∙ ap (λ v. padded v (earlier_text t)) ew }
+
+-- a text that was read stands at the front
+pub read-front : (o : Option (List ℕ)) (n : ℕ) (out : List ℕ) → Some n ≡ size_of o → out ≡ padded 4096 (bytes_of o) → portion out 0 n ≡ bytes_of o
+read-front None n out e f = let z : ◌≡◌ {A = ℕ} 0 1 = cc in absurd (omega arith)
+read-front (Some t) n out e f = let i : n ≡ length t = cc in rw (f, i) (portion-padded 4096 t)
+
+pub read-filled : (o : Option (List ℕ)) (n : ℕ) (out : List ℕ) → Some n ≡ size_of o → out ≡ padded 4096 (bytes_of o) → Filled 4096 (portion out 0 n) n out
+read-filled None n out e f = let z : ◌≡◌ {A = ℕ} 0 1 = cc in absurd (omega arith)
+read-filled (Some t) n out e f =
+    let i : n ≡ length t = cc in
+    let p : portion out 0 n ≡ t = read-front (Some t) n out e f in
+    record { len = i ∙ ap length (sym p); text = f ∙ ap (padded 4096) (sym p) }
+
+-- what the two calls answer, of a key that names a database system
+pub of-span : (b : Bool) (o : Option Known) (n r : ℕ) (out after : List ℕ) → true ≡ b → Some n ≡ size_of (text_of o) → out ≡ padded 4096 (bytes_of (text_of o)) → Filled 4096 (earlier_text (portion out 0 n)) r after → (Some r ≡ size_of (text_of (cond b (option_map earlier_known o) o))) × (after ≡ padded 4096 (bytes_of (text_of (cond b (option_map earlier_known o) o))))
+of-span b None n r out after h e f p = let z : ◌≡◌ {A = ℕ} 0 1 = cc in absurd (omega arith)
+of-span b (Some k) n r out after h e f p =
+    let i : portion out 0 n ≡ k.text = read-front (Some k.text) n out e f in
+    rw (← h) (ap Some (p.len ∙ ap (λ t. length (earlier_text t)) i), p.text ∙ ap (λ t. padded 4096 (earlier_text t)) i)
+
+pub of-resource : (b : Bool) (o : Option (List ℕ)) (n r : ℕ) (out after : List ℕ) → true ≡ b → Some n ≡ size_of o → out ≡ padded 4096 (bytes_of o) → Filled 4096 (earlier_text (portion out 0 n)) r after → (Some r ≡ size_of (cond b (option_map earlier_text o) o)) × (after ≡ padded 4096 (bytes_of (cond b (option_map earlier_text o) o)))
+of-resource b None n r out after h e f p = let z : ◌≡◌ {A = ℕ} 0 1 = cc in absurd (omega arith)
+of-resource b (Some t) n r out after h e f p =
+    let i : portion out 0 n ≡ t = read-front (Some t) n out e f in
+    rw (← h) (ap Some (p.len ∙ ap (λ t. length (earlier_text t)) i), p.text ∙ ap (λ t. padded 4096 (earlier_text t)) i)

@@ -1,0 +1,4 @@
+//! Readers over readers.
+#![tactic(auto)]
+
+pub mod later_edition;

@@ -1,0 +1,3 @@
+mod Pairs
+pub mod Laws
+pub mod Examples

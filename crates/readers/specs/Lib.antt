@@ -1,0 +1,5 @@
+pub mod Reading
+pub mod Texts
+pub mod Places
+pub mod Tables
+pub mod DatadogKeys

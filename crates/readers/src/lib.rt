@@ -1,0 +1,7 @@
+//! Readers of spans: what a reader answers, and its texts by several keys.
+#![tactic(auto)]
+
+pub mod dd_keys;
+pub mod otel_util;
+pub mod tables;
+pub mod texts;

@@ -1,0 +1,125 @@
+//! What a reader of a span is, and its texts by several keys.
+ghost use Rattle.std.specs.Prelude.{◌≡◌, ◌≤◌, length, is_some};
+ghost use Rattle.lent_bytes.specs.Memory.{padded};
+ghost use Rattle.readers.specs.Reading.{Reading, text_of, number_of, bytes_of, size_of};
+ghost use Rattle.readers.specs.Texts.{Filled, span_text, resource_text, places_of, res_span_opt, res_span_text, first_span_text, first_resource_text};
+
+use blocks::span_kind::SpanKind;
+use lent_bytes::texts::finish;
+use names::attribute_keys::AttributeKey;
+
+/// A span as it is read: a name, a kind, and what the span and its resource say under the known keys.
+pub trait OtelSpan {
+    ghost reading: { Self → Reading };
+
+    /// The span's name.
+    fn name(&self, out: &mut [u8; 4096]) -> usize
+        ensures { Filled 4096 (reading self.now).name result out.new };
+
+    /// What the span stands for.
+    fn span_kind(&self) -> SpanKind
+        ensures { result ≡ (reading self.now).kind };
+
+    /// Whether the span has the attribute.
+    fn has_attr(&self, key: AttributeKey) -> bool
+        ensures { result ≡ is_some ((reading self.now).span key.idx) };
+
+    /// The text of a span's attribute.
+    fn get_attr_str_opt(&self, key: AttributeKey, out: &mut [u8; 4096]) -> Option<usize>
+        ensures size { result ≡ size_of (text_of ((reading self.now).span key.idx)) }
+        ensures text { out.new ≡ padded 4096 (bytes_of (text_of ((reading self.now).span key.idx))) };
+
+    /// The number of a span's attribute.
+    fn get_attr_num(&self, key: AttributeKey) -> Option<i64>
+        ensures { result ≡ number_of ((reading self.now).span key.idx) };
+
+    /// The text of a resource's attribute.
+    fn get_res_attribute_opt(&self, key: AttributeKey, out: &mut [u8; 4096]) -> Option<usize>
+        ensures size { result ≡ size_of ((reading self.now).resource key.idx) }
+        ensures text { out.new ≡ padded 4096 (bytes_of ((reading self.now).resource key.idx)) };
+}
+
+/// The text of a span's attribute, the empty one where it has none.
+pub fn get_attr_str<S: OtelSpan>(span: &S, key: AttributeKey, out: &mut [u8; 4096]) -> usize
+    ensures { Filled 4096 (span_text (S.OtelSpan.reading span.now) key.idx) result out.new }
+{
+    match span.get_attr_str_opt(key, out) {
+        Some(n) => n,
+        None => 0,
+    }
+}
+
+/// The text of a resource's attribute, the empty one where it has none.
+fn get_res_attribute<S: OtelSpan>(span: &S, key: AttributeKey, out: &mut [u8; 4096]) -> usize
+    ensures { Filled 4096 (resource_text (S.OtelSpan.reading span.now) key.idx) result out.new }
+{
+    match span.get_res_attribute_opt(key, out) {
+        Some(n) => n,
+        None => 0,
+    }
+}
+
+/// The text under one key: of the resource unless empty, else of the span, if it has one.
+fn res_span_attribute<S: OtelSpan>(
+    span: &S,
+    key: AttributeKey,
+    out: &mut [u8; 4096],
+) -> Option<usize>
+    ensures size { result ≡ size_of (res_span_opt (S.OtelSpan.reading span.now) key.idx) }
+    ensures text { out.new ≡ padded 4096 (bytes_of (res_span_opt (S.OtelSpan.reading span.now) key.idx)) }
+{
+    match span.get_res_attribute_opt(key, out) {
+        Some(n) if n > 0 => Some(n),
+        _ => span.get_attr_str_opt(key, out),
+    }
+}
+
+/// The first text under the keys: of the resource unless empty, then of the span even if empty.
+pub fn get_res_span_attributes<S: OtelSpan>(
+    span: &S,
+    attributes: &[AttributeKey],
+    out: &mut [u8; 4096],
+) -> usize
+    ensures { Filled 4096 (res_span_text (S.OtelSpan.reading span.now) (places_of attributes.now)) result out.new }
+{
+    for key in attributes {
+        if let Some(n) = res_span_attribute(span, *key, out) {
+            return n;
+        }
+    }
+    finish(out, 0)
+}
+
+/// The first text of the span under the keys that is not empty.
+pub fn get_span_attributes<S: OtelSpan>(
+    span: &S,
+    attributes: &[AttributeKey],
+    out: &mut [u8; 4096],
+) -> usize
+    ensures { Filled 4096 (first_span_text (S.OtelSpan.reading span.now) (places_of attributes.now)) result out.new }
+{
+    for key in attributes {
+        let n = get_attr_str(span, *key, out);
+        if n > 0 {
+            return n;
+        }
+    }
+    finish(out, 0)
+}
+
+/// The first text of the resource under the keys that is not empty.
+pub fn get_res_attributes<S: OtelSpan>(
+    span: &S,
+    attributes: &[AttributeKey],
+    out: &mut [u8; 4096],
+) -> usize
+    ensures { Filled 4096 (first_resource_text (S.OtelSpan.reading span.now) (places_of attributes.now)) result out.new }
+{
+    for key in attributes {
+        let n = get_res_attribute(span, *key, out);
+        if n > 0 {
+            return n;
+        }
+    }
+    finish(out, 0)
+}

@@ -1,0 +1,31 @@
+use Rattle.std.proofs.Common.{◌≡◌, ◌<◌, ◌≤◌, sym, refl, ap, ◌∙◌, arith}
+use Rattle.names.proofs.Lasts.{lasts-none}
+use Rattle.blocks.specs.Layout.{rows_in}
+use Rattle.blocks.specs.Facts.{fact_of}
+use Rattle.span_args.proofs.Rows.{noted-row, no_row, all-rows, read_by}
+use Rattle.span_args.proofs.span_extract_args.SpanExtractArgs.new.Goals as goal
+use Rattle.span_args.proofs.span_extract_args.SpanExtractArgs.new.Goals.{in-Some, in_default}
+
+pub loop-i-init : goal.loop-i-init
+loop-i-init c = (c.default-span_attrs.ensures ∙ sym lasts-none, c.default-res_attrs.ensures ∙ sym lasts-none)
+
+pub loop-i-preserved : goal.loop-i-preserved
+loop-i-preserved c =
+    let m = c.args.span.now.block.now in
+    let lt : c.loop-i.i < rows_in m = omega (arith, c.loop-i-test.true, c.row_count-i-end.ensures) in
+    elim c.match-row_of.branch [
+      | in-Some w ↦ (
+        ap (λ a. a.places) w.span_attrs-is ∙ noted-row 0 m c.loop-i.i (fact_of w.in-Some.row) _ _ lt w.in-Some.ensures c.loop-i.invariant.0 w.note_row.ensures.span,
+        ap (λ a. a.places) w.res_attrs-is ∙ noted-row 1 m c.loop-i.i (fact_of w.in-Some.row) _ _ lt w.in-Some.ensures c.loop-i.invariant.1 w.note_row.ensures.resource,
+      )
+      | in_default w ↦ absurd (no_row m c.loop-i.i lt w.in_default.ensures)
+    ]
+
+pub returns : goal.returns
+returns c =
+    let m = c.args.span.now.block.now in
+    let le : rows_in m ≤ c.loop-i.i = omega (arith, c.loop-i-test.false, c.row_count-i-end.ensures) in
+    record {
+      span = refl;
+      reading = read_by m _ _ (all-rows 0 m c.loop-i.i _ le c.loop-i.invariant.0) (all-rows 1 m c.loop-i.i _ le c.loop-i.invariant.1);
+    }

@@ -1,0 +1,11 @@
+use Rattle.std.proofs.Common.{◌≡◌, arith}
+use Rattle.blocks.specs.Facts.{fact_of}
+use Rattle.span_args.proofs.Noting.{of-list, of_other}
+use Rattle.span_args.proofs.span_extract_args.note_row.Goals as goal
+
+pub returns-in-0 : goal.returns-in-0
+returns-in-0 c =
+    record {
+      span = of-list 0 c.args.i (fact_of c.args.row.now) _ _ c.in-0.is c.note.ensures;
+      resource = of_other 1 c.args.i (fact_of c.args.row.now) _ (λ e. omega arith);
+    }

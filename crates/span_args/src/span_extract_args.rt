@@ -1,0 +1,175 @@
+//! A span in a block, with the rows of the known keys noted.
+ghost use Rattle.std.specs.Prelude.{◌≡◌, if◌then◌else◌, Some, None, nat_lt, slice_index_or};
+ghost use Rattle.std.specs.Option.{option_map};
+ghost use Rattle.lent_bytes.specs.Memory.{Placed, padded};
+ghost use Rattle.names.specs.Keys.{key_at, known};
+ghost use Rattle.names.specs.Places.{noted};
+ghost use Rattle.values.specs.Format.{meant};
+ghost use Rattle.values.specs.Shown.{display, string_repr};
+ghost use Rattle.blocks.specs.Layout.{rows_in};
+ghost use Rattle.blocks.specs.Facts.{facts, fact_of, row_fact};
+ghost use Rattle.readers.specs.Reading.{size_of, bytes_of, text_of, number_of};
+ghost use Rattle.span_args.specs.ReadingOf.{list_key, datum_at, shown_by, span_known, resource_shown, row_in, reading_by, reading_of};
+
+use blocks::row::Row;
+use blocks::sdk_span::SdkSpan;
+use blocks::span_kind::SpanKind;
+use lent_bytes::texts::{finish, write_text};
+use names::attribute_indices::AttributeIndices;
+use names::attribute_keys::{AttributeKey, get_attribute_idx};
+use readers::otel_util::OtelSpan;
+use values::kinds::ValueKind;
+use values::show::{display_text, otel_value_string_repr};
+use values::value::Value;
+
+/// A span in a block, with the number of the last row of each known key, of the span's attributes and of
+/// the resource's.
+#[derive(Clone, Copy)]
+pub struct SpanExtractArgs<'a> {
+    span: SdkSpan<'a>,
+    span_attrs: AttributeIndices,
+    res_attrs: AttributeIndices,
+}
+
+/// The value of a row; none where its kind's number names no kind.
+fn value_of<'a>(row: &Row<'a>) -> Option<Value<'a>>
+    ensures { option_map meant result ≡ datum_at (fact_of row.now) }
+{
+    match ValueKind::from_number(row.kind) {
+        Some(kind) => Some(Value::new(kind, row.value)),
+        None => None,
+    }
+}
+
+/// What the span says by a row.
+fn span_text(row: &Row<'_>, out: &mut [u8; 4096]) -> usize
+    ensures { Placed 4096 (shown_by string_repr (datum_at (fact_of row.now))) result out.new }
+{
+    match value_of(row) {
+        Some(value) => otel_value_string_repr(&value, out),
+        None => write_text(out, b""),
+    }
+}
+
+/// What the resource says by a row.
+fn resource_text(row: &Row<'_>, out: &mut [u8; 4096]) -> usize
+    ensures { Placed 4096 (shown_by display (datum_at (fact_of row.now))) result out.new }
+{
+    match value_of(row) {
+        Some(value) => display_text(&value, out),
+        None => write_text(out, b""),
+    }
+}
+
+/// Notes the row `i` for its key, if that is known.
+fn note(indices: &mut AttributeIndices, key: &[u8], i: u16)
+    ensures { indices.new.places ≡ noted (option_map key_at (known key.now)) i indices.old.places }
+{
+    if let Some(found) = get_attribute_idx(key) {
+        indices.set(found, i as usize);
+    }
+}
+
+/// The row with a number, if there are as many.
+fn row_of<'a>(span: &SdkSpan<'a>, i: u16) -> Option<Row<'a>>
+    ensures { option_map fact_of result ≡ (if nat_lt i (rows_in span.now.block.now) then Some (row_fact span.now.block.now i) else None) }
+{
+    match span.row(i) {
+        Ok(row) => Some(row),
+        Err(_) => None,
+    }
+}
+
+/// The row that was noted for a key.
+fn noted_row<'a>(
+    span: &SdkSpan<'a>,
+    indices: &AttributeIndices,
+    key: AttributeKey,
+) -> Option<Row<'a>>
+    ensures { option_map fact_of result ≡ row_in span.now.block.now (slice_index_or indices.now.places key.idx None) }
+{
+    match indices.get(key) {
+        Some(i) if i < span.row_count() as usize => row_of(span, i as u16),
+        _ => None,
+    }
+}
+
+/// Notes the row `i` under the span's attributes or the resource's, by its list.
+fn note_row(
+    row: &Row<'_>,
+    i: u16,
+    span_attrs: &mut AttributeIndices,
+    res_attrs: &mut AttributeIndices,
+)
+    ensures span { span_attrs.new.places ≡ noted (option_map key_at (known (list_key 0 (fact_of row.now)))) i span_attrs.old.places }
+    ensures resource { res_attrs.new.places ≡ noted (option_map key_at (known (list_key 1 (fact_of row.now)))) i res_attrs.old.places }
+{
+    match row.list {
+        0 => note(span_attrs, row.key, i),
+        1 => note(res_attrs, row.key, i),
+        _ => {}
+    }
+}
+
+impl<'a> SpanExtractArgs<'a> {
+    /// The reader of a span: its reading is that of the span's facts.
+    pub fn new(span: &SdkSpan<'a>) -> SpanExtractArgs<'a>
+        ensures span { result.span.block.now ≡ span.now.block.now }
+        ensures reading { reading_by result.span.block.now result.span_attrs.places result.res_attrs.places ≡ reading_of (facts span.now.block.now) }
+    {
+        let mut span_attrs = AttributeIndices::default();
+        let mut res_attrs = AttributeIndices::default();
+        for i in 0..span.row_count() {
+            if let Some(row) = row_of(span, i) {
+                note_row(&row, i, &mut span_attrs, &mut res_attrs);
+            }
+        }
+        SpanExtractArgs {
+            span: *span,
+            span_attrs,
+            res_attrs,
+        }
+    }
+}
+
+impl<'a> OtelSpan for SpanExtractArgs<'a> {
+    ghost reading = { λ s. reading_by s.span.block.now s.span_attrs.places s.res_attrs.places };
+
+    fn name(&self, out: &mut [u8; 4096]) -> usize {
+        write_text(out, self.span.name())
+    }
+
+    fn span_kind(&self) -> SpanKind {
+        self.span.kind()
+    }
+
+    fn has_attr(&self, key: AttributeKey) -> bool {
+        noted_row(&self.span, &self.span_attrs, key).is_some()
+    }
+
+    fn get_attr_str_opt(&self, key: AttributeKey, out: &mut [u8; 4096]) -> Option<usize> {
+        match noted_row(&self.span, &self.span_attrs, key) {
+            Some(row) => Some(span_text(&row, out)),
+            None => {
+                finish(out, 0);
+                None
+            }
+        }
+    }
+
+    fn get_attr_num(&self, key: AttributeKey) -> Option<i64> {
+        let row = noted_row(&self.span, &self.span_attrs, key)?;
+        let value = value_of(&row)?;
+        value.number()
+    }
+
+    fn get_res_attribute_opt(&self, key: AttributeKey, out: &mut [u8; 4096]) -> Option<usize> {
+        match noted_row(&self.span, &self.res_attrs, key) {
+            Some(row) => Some(resource_text(&row, out)),
+            None => {
+                finish(out, 0);
+                None
+            }
+        }
+    }
+}
