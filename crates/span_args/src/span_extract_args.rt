@@ -1,13 +1,12 @@
 //! A span in a block, with the rows of the known keys noted.
-ghost use Rattle.std.specs.Prelude.{◌≡◌, if◌then◌else◌, Some, None, nat_lt, slice_index_or};
+ghost use Rattle.std.specs.Prelude.{◌≡◌, None, slice_index_or};
 ghost use Rattle.std.specs.Option.{option_map};
 ghost use Rattle.lent_bytes.specs.Memory.{Placed, padded};
 ghost use Rattle.names.specs.Keys.{key_at, known};
 ghost use Rattle.names.specs.Places.{noted};
 ghost use Rattle.values.specs.Format.{meant};
 ghost use Rattle.values.specs.Shown.{display, string_repr};
-ghost use Rattle.blocks.specs.Layout.{rows_in};
-ghost use Rattle.blocks.specs.Facts.{facts, fact_of, row_fact};
+ghost use Rattle.blocks.specs.Facts.{facts, fact_of};
 ghost use Rattle.readers.specs.Reading.{size_of, bytes_of, text_of, number_of};
 ghost use Rattle.span_args.specs.ReadingOf.{list_key, datum_at, shown_by, span_known, resource_shown, row_in, reading_by, reading_of};
 
@@ -70,16 +69,6 @@ fn note(indices: &mut AttributeIndices, key: &[u8], i: u16)
     }
 }
 
-/// The row with a number, if there are as many.
-fn row_of<'a>(span: &SdkSpan<'a>, i: u16) -> Option<Row<'a>>
-    ensures { option_map fact_of result ≡ (if nat_lt i (rows_in span.now.block.now) then Some (row_fact span.now.block.now i) else None) }
-{
-    match span.row(i) {
-        Ok(row) => Some(row),
-        Err(_) => None,
-    }
-}
-
 /// The row that was noted for a key.
 fn noted_row<'a>(
     span: &SdkSpan<'a>,
@@ -89,7 +78,7 @@ fn noted_row<'a>(
     ensures { option_map fact_of result ≡ row_in span.now.block.now (slice_index_or indices.now.places key.idx None) }
 {
     match indices.get(key) {
-        Some(i) if i < span.row_count() as usize => row_of(span, i as u16),
+        Some(i) if i < span.row_count() as usize => span.row(i as u16),
         _ => None,
     }
 }
@@ -120,7 +109,7 @@ impl<'a> SpanExtractArgs<'a> {
         let mut span_attrs = AttributeIndices::default();
         let mut res_attrs = AttributeIndices::default();
         for i in 0..span.row_count() {
-            if let Some(row) = row_of(span, i) {
+            if let Some(row) = span.row(i) {
                 note_row(&row, i, &mut span_attrs, &mut res_attrs);
             }
         }

@@ -9,3 +9,6 @@ returns-in-0 c =
       span = of-list 0 c.args.i (fact_of c.args.row.now) _ _ c.in-0.is c.note.ensures;
       resource = of_other 1 c.args.i (fact_of c.args.row.now) _ (λ e. omega arith);
     }
+
+pub returns-in-1-clause-resource : goal.returns-in-1-clause-resource
+returns-in-1-clause-resource c = of-list 1 c.args.i (fact_of c.args.row.now) _ _ c.in-1.is c.note-in-1.ensures

@@ -13,7 +13,7 @@ pub loop-i-preserved : goal.loop-i-preserved
 loop-i-preserved c =
     let m = c.args.span.now.block.now in
     let lt : c.loop-i.i < rows_in m = omega (arith, c.loop-i-test.true, c.row_count-i-end.ensures) in
-    elim c.match-row_of.branch [
+    elim c.match-row.branch [
       | in-Some w ↦ (
         ap (λ a. a.places) w.span_attrs-is ∙ noted-row 0 m c.loop-i.i (fact_of w.in-Some.row) _ _ lt w.in-Some.ensures c.loop-i.invariant.0 w.note_row.ensures.span,
         ap (λ a. a.places) w.res_attrs-is ∙ noted-row 1 m c.loop-i.i (fact_of w.in-Some.row) _ _ lt w.in-Some.ensures c.loop-i.invariant.1 w.note_row.ensures.resource,
