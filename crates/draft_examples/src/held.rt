@@ -1,0 +1,172 @@
+//! What drafts hold.
+use crate::made::{fill_list, start_of, text};
+use blocks::lists::List;
+use blocks::sdk_span::open;
+use blocks::span_kind::StatusCode;
+use drafts::draft::Draft;
+use drafts::refusal::answer_number;
+use std::test::Fail;
+
+// 128 attributes of the span; another is refused and counted, and a held key is still replaced.
+#[test]
+fn full_list(rt: HostRuntime) -> Result<(), Fail> {
+    let mut v = vec![in rt.alloc(); 7u8; 12000]?;
+    let m = &mut v[..];
+    let Ok(draft) = Draft::start(m, &start_of(300)) else {
+        assert!(rt; false);
+        return Ok(());
+    };
+    let mut draft = draft;
+    let last = fill_list(&mut draft, 0, 128);
+    let more = fill_list(&mut draft, 0, 129);
+    let again = answer_number(draft.set(0, b"aa", 3, b"w"));
+    let other = fill_list(&mut draft, 1, 129);
+    let span = draft.end(20);
+    assert_eq!(rt; [last, more, again, other], [0, 22, 0, 22]);
+    assert_eq!(rt; (span.dropped_attributes(), span.row_count()), (1, 256));
+    Ok(())
+}
+
+// Each event has 128 attributes of its own; a 129th is refused and not counted.
+#[test]
+fn full_owner(rt: HostRuntime) -> Result<(), Fail> {
+    let mut v = vec![in rt.alloc(); 7u8; 12000]?;
+    let m = &mut v[..];
+    let Ok(draft) = Draft::start(m, &start_of(300)) else {
+        assert!(rt; false);
+        return Ok(());
+    };
+    let mut draft = draft;
+    let _ = draft.event(b"first", 11);
+    let last = fill_list(&mut draft, 4, 128);
+    let more = fill_list(&mut draft, 4, 129);
+    let _ = draft.event(b"second", 12);
+    let next = fill_list(&mut draft, 4, 128);
+    let span = draft.end(20);
+    assert_eq!(rt; [last, more, next], [0, 22, 0]);
+    assert_eq!(rt; (span.dropped_attributes(), span.row_count()), (0, 258));
+    Ok(())
+}
+
+// 128 events, and 128 links; another of each is refused and counted.
+#[test]
+fn full_owners(rt: HostRuntime) -> Result<(), Fail> {
+    let mut v = vec![in rt.alloc(); 7u8; 12000]?;
+    let m = &mut v[..];
+    let Ok(draft) = Draft::start(m, &start_of(300)) else {
+        assert!(rt; false);
+        return Ok(());
+    };
+    let mut draft = draft;
+    let mut event = 255;
+    let mut link = 255;
+    for _ in 0..128 {
+        event = answer_number(draft.event(b"e", 11));
+        link = answer_number(draft.link(b"", text(25)));
+    }
+    let event_more = answer_number(draft.event(b"e", 11));
+    let link_more = answer_number(draft.link(b"", text(25)));
+    let link_again = answer_number(draft.link(b"", text(25)));
+    let span = draft.end(20);
+    assert_eq!(rt;
+        [event, link, event_more, link_more, link_again],
+        [0, 0, 22, 22, 22]
+    );
+    assert_eq!(rt;
+        (
+            span.dropped_events(),
+            span.dropped_links(),
+            span.row_count(),
+        ),
+        (1, 2, 256)
+    );
+    Ok(())
+}
+
+// Error, Ok, Error: Ok is final, and has no description.
+#[test]
+fn statuses(rt: HostRuntime) -> Result<(), Fail> {
+    let mut m = [7u8; 200];
+    let Ok(draft) = Draft::start(&mut m, &start_of(0)) else {
+        assert!(rt; false);
+        return Ok(());
+    };
+    let mut draft = draft;
+    let numbers = [
+        answer_number(draft.status(0, b"no")),
+        answer_number(draft.status(2, b"first")),
+        answer_number(draft.status(2, b"second")),
+        answer_number(draft.status(0, b"")),
+        answer_number(draft.status(1, b"gone")),
+        answer_number(draft.status(2, b"late")),
+        answer_number(draft.status(3, b"")),
+    ];
+    let span = draft.end(20);
+    assert_eq!(rt; numbers, [1, 0, 0, 1, 0, 1, 24]);
+    assert_eq!(rt; span.status(), StatusCode::Ok);
+    assert!(rt; span.description() == b"");
+    Ok(())
+}
+
+/// Two events that each have the key `k`, and a span attribute of two kinds in turn.
+fn put_owners(m: &mut [u8]) {
+    let Ok(draft) = Draft::start(m, &start_of(8)) else {
+        return;
+    };
+    let mut draft = draft;
+    let _ = draft.set_i64(List::Span, b"k", -5);
+    let _ = draft.event(b"e", 11);
+    let _ = draft.set_bool(List::EventAttribute, b"k", true);
+    let _ = draft.event(b"f", 12);
+    let _ = draft.set_str(List::EventAttribute, b"k", b"first");
+    let _ = draft.set_str(List::EventAttribute, b"k", b"second");
+    let _ = draft.set_f64(List::Span, b"k", 4607182418800017408, b"1.0");
+    let _ = draft.rename(b"renamed");
+    let _ = draft.end(20);
+}
+
+/// Whether the row `i` of a block has this kind and value.
+fn has_row(m: &[u8], i: u16, kind: u8, value: &[u8]) -> bool {
+    match open(m) {
+        Ok(span) => match span.row(i) {
+            Some(row) => row.kind == kind && row.value == value,
+            None => false,
+        },
+        Err(_) => false,
+    }
+}
+
+// A key is looked for under the newest event alone; a replaced value stays in its row.
+#[test]
+fn owners(rt: HostRuntime) -> Result<(), Fail> {
+    let mut m = [7u8; 600];
+    put_owners(&mut m);
+    let Ok(span) = open(&m) else {
+        assert!(rt; false);
+        return Ok(());
+    };
+    assert!(rt; span.row_count() == 5 && span.name() == b"renamed");
+    assert!(rt; has_row(&m, 0, 2, b"\0\0\0\0\0\0\xf0\x3f1.0"));
+    assert!(rt; has_row(&m, 2, 0, b"\x01"));
+    assert!(rt; has_row(&m, 4, 3, b"second"));
+    Ok(())
+}
+
+// A double's text of 400 bytes, and of 401.
+#[test]
+fn doubles(rt: HostRuntime) -> Result<(), Fail> {
+    let mut m = [7u8; 1000];
+    let Ok(draft) = Draft::start(&mut m, &start_of(1)) else {
+        assert!(rt; false);
+        return Ok(());
+    };
+    let mut draft = draft;
+    let numbers = [
+        answer_number(draft.set_f64(List::Span, b"k", 0, b"")),
+        answer_number(draft.set_f64(List::Span, b"k", 0, text(400))),
+        answer_number(draft.set_f64(List::Span, b"k", 0, text(401))),
+    ];
+    draft.discard();
+    assert_eq!(rt; numbers, [8, 0, 8]);
+    Ok(())
+}

@@ -1,0 +1,12 @@
+//! Examples of drafts: each limit, the order of refusals, what is held, and what a caller knows.
+#![tactic(auto)]
+
+pub mod callers;
+#[cfg(test)]
+mod held;
+#[cfg(test)]
+mod limits;
+#[cfg(test)]
+mod made;
+#[cfg(test)]
+mod starts;

@@ -1,0 +1,244 @@
+//! Starts at each limit.
+use crate::made::{start_number, start_of, text};
+use blocks::sdk_span::open;
+use drafts::draft::Draft;
+use drafts::start::Start;
+use std::test::Fail;
+
+// Memory of 119, 120, 65,536 and 65,537 bytes.
+#[test]
+fn memory(rt: HostRuntime) -> Result<(), Fail> {
+    let mut v = vec![in rt.alloc(); 7u8; 65537]?;
+    let m = &mut v[..];
+    assert!(rt; m.len() == 65537);
+    let start = start_of(0);
+    assert_eq!(rt;
+        [
+            start_number(&mut m[0..119], &start),
+            start_number(&mut m[0..120], &start),
+            start_number(&mut m[0..65536], &start),
+            start_number(m, &start),
+        ],
+        [12, 0, 0, 12]
+    );
+    Ok(())
+}
+
+// Room for 1,024 and 1,025 rows, and for one row in a byte too few.
+#[test]
+fn rows(rt: HostRuntime) -> Result<(), Fail> {
+    let mut v = vec![in rt.alloc(); 7u8; 65536]?;
+    let m = &mut v[..];
+    assert!(rt; m.len() == 65536);
+    assert_eq!(rt;
+        [
+            start_number(m, &start_of(1024)),
+            start_number(m, &start_of(1025)),
+            start_number(&mut m[0..143], &start_of(1)),
+            start_number(&mut m[0..144], &start_of(1)),
+        ],
+        [0, 12, 12, 0]
+    );
+    Ok(())
+}
+
+#[test]
+fn kinds(rt: HostRuntime) {
+    let mut m = [7u8; 120];
+    let start = start_of(0);
+    assert_eq!(rt;
+        [
+            start_number(&mut m, &Start { kind: 0, ..start }),
+            start_number(&mut m, &Start { kind: 1, ..start }),
+            start_number(&mut m, &Start { kind: 5, ..start }),
+            start_number(&mut m, &Start { kind: 6, ..start }),
+        ],
+        [11, 0, 0, 11]
+    );
+}
+
+// The longest texts, and each a byte longer.
+#[test]
+fn texts(rt: HostRuntime) {
+    let mut m = [7u8; 2000];
+    let longest = Start {
+        name: text(255),
+        trace_state: text(512),
+        scope_name: text(255),
+        scope_version: text(255),
+        ..start_of(0)
+    };
+    assert_eq!(rt;
+        [
+            start_number(&mut m, &longest),
+            start_number(
+                &mut m,
+                &Start {
+                    name: text(256),
+                    ..longest
+                },
+            ),
+            start_number(
+                &mut m,
+                &Start {
+                    trace_state: text(513),
+                    ..longest
+                },
+            ),
+            start_number(
+                &mut m,
+                &Start {
+                    scope_name: text(256),
+                    ..longest
+                },
+            ),
+            start_number(
+                &mut m,
+                &Start {
+                    scope_version: text(256),
+                    ..longest
+                },
+            ),
+            start_number(
+                &mut m,
+                &Start {
+                    scope_version: b"\xff",
+                    ..longest
+                },
+            ),
+        ],
+        [0, 4, 4, 4, 4, 5]
+    );
+}
+
+// The texts fill the memory, and do so with a byte too many.
+#[test]
+fn room(rt: HostRuntime) {
+    let mut m = [7u8; 150];
+    let start = start_of(1);
+    assert_eq!(rt;
+        [
+            start_number(
+                &mut m,
+                &Start {
+                    name: b"abcd",
+                    scope_name: b"ef",
+                    ..start
+                },
+            ),
+            start_number(
+                &mut m,
+                &Start {
+                    name: b"abcd",
+                    scope_name: b"efg",
+                    ..start
+                },
+            ),
+        ],
+        [0, 13]
+    );
+}
+
+// Kind, memory, texts, room: the first fault is answered.
+#[test]
+fn order(rt: HostRuntime) {
+    let mut m = [7u8; 119];
+    let bad = Start {
+        kind: 9,
+        name: b"\xff",
+        ..start_of(2000)
+    };
+    assert_eq!(rt;
+        [
+            start_number(&mut m, &bad),
+            start_number(&mut m, &Start { kind: 1, ..bad }),
+        ],
+        [11, 12]
+    );
+    let mut n = [7u8; 120];
+    let bad = Start {
+        name: text(256),
+        trace_state: b"\xff",
+        ..start_of(0)
+    };
+    assert_eq!(rt;
+        [
+            start_number(&mut n, &bad),
+            start_number(&mut n, &Start { name: b"a", ..bad }),
+            start_number(
+                &mut n,
+                &Start {
+                    trace_state: b"",
+                    name: b"a",
+                    ..bad
+                },
+            ),
+        ],
+        [4, 5, 13]
+    );
+}
+
+// A refused start hands the memory back as it was, and a discarded draft leaves zeros.
+#[test]
+fn memory_back(rt: HostRuntime) {
+    let mut m = [7u8; 119];
+    assert_eq!(rt;
+        [start_number(&mut m, &start_of(0)), m[0], m[118]],
+        [12, 7, 7]
+    );
+    let mut n = [7u8; 130];
+    assert_eq!(rt;
+        [
+            start_number(
+                &mut n,
+                &Start {
+                    name: b"abc",
+                    ..start_of(0)
+                },
+            ),
+            n[10],
+            n[120],
+            n[129],
+        ],
+        [0, 0, 0, 0]
+    );
+}
+
+/// Starts a draft and ends it at once.
+fn put_ended(m: &mut [u8]) {
+    let start = Start {
+        name: b"GET /track",
+        trace_state: b"a=b",
+        scope_name: b"dash",
+        scope_version: b"1.2",
+        ..start_of(1)
+    };
+    if let Ok(draft) = Draft::start(m, &start) {
+        let _ = draft.end(20);
+    }
+}
+
+// An ended draft is a block that open accepts, with what was said at the start.
+#[test]
+fn ended(rt: HostRuntime) -> Result<(), Fail> {
+    let mut m = [7u8; 200];
+    put_ended(&mut m);
+    let Ok(span) = open(&m) else {
+        assert!(rt; false);
+        return Ok(());
+    };
+    assert_eq!(rt;
+        [
+            span.trace_id_high(),
+            span.trace_id_low(),
+            span.span_id(),
+            span.parent_id(),
+        ],
+        [1, 2, 3, 0]
+    );
+    assert_eq!(rt; (span.start_time(), span.end_time()), (10, 20));
+    assert!(rt; span.name() == b"GET /track" && span.trace_state() == b"a=b");
+    assert!(rt; span.scope_name() == b"dash" && span.scope_version() == b"1.2");
+    assert!(rt; span.row_count() == 0 && span.description() == b"");
+    Ok(())
+}

@@ -1,0 +1,5 @@
+mod Encodings
+mod Pieces
+mod Numerals
+mod Quotes
+mod Readings

@@ -1,0 +1,121 @@
+//! Hex digits: read in either case, printed in lower case.
+ghost use Rattle.std.specs.Prelude.{◌≡◌, ◌<◌, [], IfSome, Ok, Err, MatchResult};
+ghost use Rattle.notation.specs.declared.hex.Place.TheVariants.{First};
+ghost use Rattle.notation.specs.Faults.{OrMemory};
+ghost use Rattle.notation.specs.Hex.{digit_value, more, pattern_of};
+ghost use Rattle.notation.specs.Reading.{digit_move, move_of, bytes_from};
+
+use crate::fault::LineFault;
+use std::alloc::Global;
+use std::fmt;
+
+/// The value of a hex digit.
+pub fn digit(b: u8) -> Option<u8>
+    ensures value { result ≡ digit_value b }
+    ensures bound { IfSome result (λ d. d < 16) }
+{
+    match b {
+        b'0'..=b'9' => Some(b - b'0'),
+        b'a'..=b'f' => Some(b - b'a' + 10),
+        b'A'..=b'F' => Some(b - b'A' + 10),
+        _ => None,
+    }
+}
+
+/// The byte of two hex digits.
+pub fn byte(high: u8, low: u8) -> Option<u8>
+    ensures { result ≡ more (digit_value high) (digit_value low) }
+{
+    Some(digit(high)? * 16 + digit(low)?)
+}
+
+/// The number of 16 hex digits, the most significant first.
+pub fn pattern(digits: &[u8]) -> Option<u64>
+    ensures { result ≡ pattern_of digits.now }
+{
+    if digits.len() != 16 {
+        return None;
+    }
+    let mut number = 0;
+    for b in digits {
+        number = number * 16 + digit(*b)? as u64;
+    }
+    Some(number)
+}
+
+/// Where in a byte's digits the next one stands.
+#[derive(Clone, Copy)]
+enum Place {
+    First,
+    /// Behind this digit.
+    Second(u8),
+}
+
+/// What one more character comes to.
+#[derive(Clone, Copy)]
+enum Move {
+    Into(Place),
+    /// It ends this byte.
+    Byte(u8),
+    Wrong(LineFault),
+}
+
+fn digit_move(place: Place, b: u8) -> Move
+    ensures { result ≡ digit_move place b }
+{
+    match place {
+        Place::First => match digit(b) {
+            Some(_) => Move::Into(Place::Second(b)),
+            None => Move::Wrong(LineFault::NotHex),
+        },
+        Place::Second(first) => match byte(first, b) {
+            Some(b) => Move::Byte(b),
+            None => Move::Wrong(LineFault::NotHex),
+        },
+    }
+}
+
+fn step(place: Place, b: u8) -> Move
+    ensures { result ≡ move_of place b }
+{
+    if b == b' ' {
+        Move::Into(place)
+    } else {
+        digit_move(place, b)
+    }
+}
+
+/// The bytes of pairs of hex digits; spaces count for nothing.
+pub fn read_bytes(heap: Global, digits: &[u8]) -> Result<Vec<u8>, LineFault>
+    ensures { MatchResult result (λ v. bytes_from First [] digits.now ≡ Ok v.items) (λ f. OrMemory f (bytes_from First [] digits.now ≡ Err f)) }
+{
+    let mut out = Vec::new(heap);
+    let mut place = Place::First;
+    for b in digits {
+        match step(place, *b) {
+            Move::Into(next) => place = next,
+            Move::Byte(b) => {
+                out.push(b)?;
+                place = Place::First;
+            }
+            Move::Wrong(fault) => return Err(fault),
+        }
+    }
+    match place {
+        Place::First => Ok(out),
+        Place::Second(_) => Err(LineFault::OddHex),
+    }
+}
+
+/// Bytes to print as hex digits.
+#[derive(Clone, Copy)]
+pub struct Hex<'a>(pub &'a [u8]);
+
+impl fmt::Display for Hex<'_> {
+    fn fmt<W: fmt::Write>(&self, f: &mut fmt::Formatter<W>) -> fmt::Result {
+        for b in self.0 {
+            write!(f, "{b:02x}")?;
+        }
+        Ok(())
+    }
+}
