@@ -104,7 +104,7 @@ fn statuses(rt: HostRuntime) -> Result<(), Fail> {
     let span = draft.end(20);
     assert_eq!(rt; numbers, [1, 0, 0, 1, 0, 1, 24]);
     assert_eq!(rt; span.status(), StatusCode::Ok);
-    assert!(rt; span.description() == b"");
+    assert!(rt; span.description() == b"".as_slice());
     Ok(())
 }
 
@@ -145,7 +145,7 @@ fn owners(rt: HostRuntime) -> Result<(), Fail> {
         assert!(rt; false);
         return Ok(());
     };
-    assert!(rt; span.row_count() == 5 && span.name() == b"renamed");
+    assert!(rt; span.row_count() == 5 && span.name() == b"renamed".as_slice());
     assert!(rt; has_row(&m, 0, 2, b"\0\0\0\0\0\0\xf0\x3f1.0"));
     assert!(rt; has_row(&m, 2, 0, b"\x01"));
     assert!(rt; has_row(&m, 4, 3, b"second"));

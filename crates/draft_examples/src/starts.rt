@@ -237,8 +237,10 @@ fn ended(rt: HostRuntime) -> Result<(), Fail> {
         [1, 2, 3, 0]
     );
     assert_eq!(rt; (span.start_time(), span.end_time()), (10, 20));
-    assert!(rt; span.name() == b"GET /track" && span.trace_state() == b"a=b");
-    assert!(rt; span.scope_name() == b"dash" && span.scope_version() == b"1.2");
-    assert!(rt; span.row_count() == 0 && span.description() == b"");
+    assert!(rt; span.name() == b"GET /track".as_slice() && span.trace_state() == b"a=b".as_slice());
+    assert!(rt;
+        span.scope_name() == b"dash".as_slice() && span.scope_version() == b"1.2".as_slice()
+    );
+    assert!(rt; span.row_count() == 0 && span.description() == b"".as_slice());
     Ok(())
 }
