@@ -1,11 +1,10 @@
 -- Each attribute of a lawful block stands under one event or link.
-use Rattle.std.proofs.Common.{◌≡◌, ℕ, zero, suc, ◌+◌, ◌-◌, ◌<◌, ◌≤◌, Bool, true, false, cond, eqb, List, [], ◌∷◌, ◌++◌, map, sym, refl, ap, ◌∙◌, arith, below_more}
+use Rattle.std.proofs.Common.{◌≡◌, ℕ, zero, suc, ◌+◌, ◌-◌, ◌<◌, Bool, true, false, cond, eqb, List, [], ◌∷◌, ◌++◌, sym, refl, ap, ◌∙◌, arith, below_more}
 use Rattle.std.specs.List.{flat_map}
 use Rattle.std.proofs.lemmas.Bool.{cond-false, eqb-true, eqb-false, ne_eqb}
 use Rattle.blocks.specs.Layout.{rows_in}
 use Rattle.blocks.specs.Faults.{list_in}
 use Rattle.blocks.specs.Facts.{RowFact, row_fact, row_facts}
-use Rattle.blocks.specs.Lawful.{Lawful}
 use Rattle.blocks.specs.Places.{rows_from}
 use Rattle.blocks.specs.Projections.{Owned, in_list, of_list, up_to, owning}
 use Rattle.block_laws.specs.Covered.{Covers, OwnedExactly}

@@ -1,9 +1,9 @@
 -- What stays of memory over writes, as ranges, and what is read from them.
-use Rattle.std.proofs.Common.{◌≡◌, ℕ, ◌+◌, ◌-◌, ◌^◌, ◌<◌, ◌≤◌, List, [], ◌∷◌, ◌++◌, length, get_or, drop, ℤ, sym, refl, ap, ◌∙◌, arith}
+use Rattle.std.proofs.Common.{◌≡◌, ℕ, ◌+◌, ◌-◌, ◌≤◌, List, [], ◌++◌, length, get_or, drop, sym, refl, ap, ◌∙◌, arith}
 use Rattle.std.proofs.lemmas.List.{get_or-take, get_or-drop, take_at, drop_at, take_all}
 use Rattle.lent_bytes.specs.Memory.{portion, written}
 use Rattle.lent_bytes.specs.Fields.{le2, le4, int8, be8, u16_in, u32_in, i64_in, id_in}
-use Rattle.lent_bytes.proofs.Frames.{length-written, portion-before, portion-after, portion-within}
+use Rattle.lent_bytes.proofs.Frames.{portion-before, portion-after, portion-within}
 
 -- m' has the bytes of m from lo up to hi
 abbrev pub Kept : List ℕ → List ℕ → ℕ → ℕ → Type 0

@@ -1,15 +1,12 @@
 -- Blocks in the making, and what a step that changes at most one row leaves of them.
-use Rattle.std.proofs.Common.{◌≡◌, ℕ, zero, suc, ◌+◌, ◌-◌, ◌*◌, ◌%◌, ◌<◌, ◌≤◌, cond, eqb, ◌⊎◌, List, [], ◌∷◌, ◌++◌, map, length, get_or, set, IsUtf8, sym, refl, ap, ◌∙◌, subst, inl, inr, ⊎_elim, arith}
-use Rattle.std.specs.List.{range_with_len}
+use Rattle.std.proofs.Common.{◌≡◌, ℕ, zero, suc, ◌+◌, ◌%◌, ◌<◌, ◌≤◌, cond, eqb, List, length, get_or, IsUtf8, sym, refl, ap, ◌∙◌, subst, ⊎_elim, arith}
 use Rattle.std.proofs.lemmas.Bool.{cases_eq}
-use Rattle.std.proofs.lemmas.List.FromFn.{length-map-range_with_len, get_or-map-range_with_len, map-range_with_len_more}
-use Rattle.std.proofs.lemmas.List.{same_lists, length-set, get_or-set_same, get_or-set_other}
 use Rattle.lent_bytes.specs.Memory.{Bytes, portion}
 use Rattle.blocks.specs.Layout.{version_in, rows_in, offset_in, capacity_in, kind_in, status_in, used_in, text_in, place_in, length_in, row_place, Row, row_at}
 use Rattle.blocks.specs.Faults.{list_in}
 use Rattle.blocks.specs.Faults.{counted, above, key_in}
-use Rattle.blocks.specs.Facts.{RowFact, fact_at, row_fact, row_facts}
-use Rattle.blocks.specs.Lawful.{TextLawful, ValueLawful, EventLawful, LinkLawful, AttributeLawful, RowLawful}
+use Rattle.blocks.specs.Facts.{RowFact, fact_at, row_fact}
+use Rattle.blocks.specs.Lawful.{TextLawful, ValueLawful, RowLawful}
 use Rattle.block_laws.proofs.Kept.{Kept, byte-kept, u16-kept, u32-kept, i64-kept}
 
 -- where the place and length of a header text stand, and how long it may be

@@ -44,7 +44,7 @@ module _ {E : Type 0} (f : ℕ → Option E) (i n : ℕ) where
   unfolding first_from
   first-none h = let e : n - i ≡ 0 = omega arith in rw e
 
--- for `search (needs, firsts)`
+-- for `search (rules, firsts)`
 pub ruleset firsts = (first_more, first-hit, first-none)
 
 -- the counts of one more row

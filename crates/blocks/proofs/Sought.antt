@@ -1,5 +1,5 @@
 -- The search for rows of a list.
-use Rattle.std.proofs.Common.{◌≡◌, ℕ, zero, suc, ◌+◌, ◌-◌, ◌<◌, ◌≤◌, Bool, true, false, cond, List, [], ◌∷◌, length, Some, None, Option, sym, refl, ap, ◌∙◌, arith}
+use Rattle.std.proofs.Common.{◌≡◌, ℕ, zero, suc, ◌+◌, ◌-◌, ◌<◌, ◌≤◌, Bool, true, false, cond, List, [], ◌∷◌, length, Some, None, ap, ◌∙◌, arith}
 use Rattle.std.specs.List.{slice_get}
 use Rattle.std.proofs.lemmas.Bool.Decides.{nat_tests}
 use Rattle.std.proofs.lemmas.Bool.{cond-true, cond-false}
@@ -48,5 +48,5 @@ nth-miss m l i n k h e = ap (λ xs. slice_get xs k) (places-miss m l i n h e)
 pub nth-none : (m : List ℕ) (l i n k : ℕ) → n ≤ i → slice_get (places_of m l i (n - i)) k ≡ None
 nth-none m l i n k h = ap (λ xs. slice_get xs k) (places-none m l i n h)
 
--- for `search (needs, seeks)`
+-- for `search (rules, seeks)`
 pub ruleset seeks = (nth-hit, nth-later, nth-miss, nth-none)

@@ -1,4 +1,4 @@
--- The blocks that the format allows, in its own words. `Opened-exactly` says that open accepts just these.
+-- The blocks that the format allows, in its own words. `OpenedExactly` says that open accepts just these.
 use Rattle.std.specs.Prelude.{◌≡◌, ℕ, ◌+◌, ◌*◌, ◌<◌, ◌≤◌, List, [], ◌∷◌, length, pos, None, IsUtf8, ◌≢◌, slice_index_or}
 use Rattle.lent_bytes.specs.Memory.{Bytes}
 use Rattle.values.specs.Atoms.{Atom, Datum, flag, whole, double, words, single, several}

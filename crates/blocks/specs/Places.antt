@@ -1,5 +1,5 @@
 -- Where the rows of a list stand, as the code looks for them.
-use Rattle.std.specs.Prelude.{ℕ, ◌-◌, Bool, cond, List, map, filter, ◌==◌}
+use Rattle.std.specs.Prelude.{ℕ, ◌-◌, Bool, List, map, filter, ◌==◌}
 use Rattle.std.specs.List.{range_with_len}
 use Rattle.blocks.specs.declared.search.Owner.{Owner}
 use Rattle.blocks.specs.declared.search.Owner.TheVariants.{Event, Link}

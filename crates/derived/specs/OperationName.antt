@@ -1,11 +1,10 @@
 -- The operation name: an attribute of its own, or else by the kind of the span and the attributes present.
-use Rattle.std.specs.Prelude.{◌≡◌, ℕ, Bool, cond, ◌||◌, List, [], ◌∷◌, ◌++◌, map, is_some, Some, None, codes, Option}
+use Rattle.std.specs.Prelude.{ℕ, Bool, cond, ◌||◌, List, [], ◌∷◌, ◌++◌, map, is_some, None, codes, Option}
 use Rattle.std.specs.Char.{to_ascii_lowercase}
 use Rattle.std.specs.Str.{bytes_eq}
-use Rattle.lent_bytes.specs.Memory.{padded}
 use Rattle.blocks.specs.declared.span_kind.SpanKind.{SpanKind}
 use Rattle.blocks.specs.declared.span_kind.SpanKind.TheVariants.{Internal, Server, Client, Producer, Consumer}
-use Rattle.readers.specs.Reading.{Reading, text_of, size_of}
+use Rattle.readers.specs.Reading.{Reading, text_of}
 use Rattle.readers.specs.Texts.{or_absent, if_given, span_text, first_span_text}
 use Rattle.readers.specs.Places.{operation_name as nameKey, http_request_method, http_method, db_system, db_system_name, messaging_system, messaging_operation, messaging_operation_type, rpc_system, rpc_service, faas_invoked_provider, faas_invoked_name, faas_trigger, graphql_operation_type, network_protocol_name}
 

@@ -1,5 +1,5 @@
 -- The resource name: what the span worked on.
-use Rattle.std.specs.Prelude.{ℕ, cond, List, [], ◌∷◌, ◌++◌, Some, None, codes, Option}
+use Rattle.std.specs.Prelude.{ℕ, cond, List, [], ◌∷◌, ◌++◌, None, codes, Option}
 use Rattle.std.specs.Str.{bytes_eq}
 use Rattle.blocks.specs.declared.span_kind.SpanKind.{SpanKind}
 use Rattle.blocks.specs.declared.span_kind.SpanKind.TheVariants.{Internal, Server, Client, Producer, Consumer}

@@ -1,8 +1,8 @@
 -- What a call that is not refused has been found to meet.
-use Rattle.std.proofs.Common.{◌≡◌, ℕ, ◌+◌, ◌<◌, ◌≤◌, min, Bool, true, false, cond, ◌&&◌, ◌||◌, eqb, ltb, leb, ◌⊎◌, List, [], ◌∷◌, ◌++◌, length, ℤ, pos, Some, None, IsUtf8, Option, sym, refl, ap, ◌∙◌, subst, inl, inr, ⊎_elim, arith, w64, SFits, rules}
+use Rattle.std.proofs.Common.{◌≡◌, ℕ, ◌+◌, ◌<◌, ◌≤◌, Bool, true, false, cond, ◌&&◌, eqb, leb, List, length, ℤ, pos, Some, None, IsUtf8, Option, sym, refl, ap, ◌∙◌, arith, w64, SFits, rules}
 use Rattle.std.specs.Option.{option_map}
 use Rattle.std.proofs.lemmas.Bool.Decides.{nat_tests}
-use Rattle.std.proofs.lemmas.Bool.{and_parts, or_parts, leb-true, leb-false, eqb-true, eqb-false, eq-eqb, both_ways}
+use Rattle.std.proofs.lemmas.Bool.{and_parts, or_parts, leb-true, leb-false, eqb-true, eq-eqb, both_ways}
 use Rattle.lent_bytes.specs.Memory.{Bytes}
 use Rattle.values.specs.Unicode.{is_text}
 use Rattle.values.specs.Faults.{value_fault}
@@ -15,9 +15,8 @@ use Rattle.blocks.specs.Faults.{above, least_key, longest_key}
 use Rattle.blocks.specs.Facts.{row_facts}
 use Rattle.blocks.proofs.Clean.{some-none}
 use Rattle.blocks.proofs.Lawfully.{value-clean, counted-stands, events-unowned, links-unowned}
-use Rattle.drafts.specs.declared.refusal.Refusal.{Refusal}
-use Rattle.drafts.specs.declared.refusal.Refusal.TheVariants.{List as NoList, Owner, Key, KeyNotUtf8, Value, Text, ListFull, RowsFull, NoRoom}
-use Rattle.drafts.specs.Held.{Content, attribute_content, event_content, link_content}
+use Rattle.drafts.specs.declared.refusal.Refusal.TheVariants.{List as NoList, Owner, Key, KeyNotUtf8, Value, Text, NoRoom}
+use Rattle.drafts.specs.Held.{attribute_content, event_content, link_content}
 use Rattle.drafts.specs.Search.{place_from}
 use Rattle.drafts.specs.Memory.{text_refusal, key_refusal, settable, unowned, fits, text_room, row_room, room_of_set, set_refusal, event_refusal, link_refusal, head_refusal}
 use Rattle.draft_law.proofs.Said.{Said, Room}

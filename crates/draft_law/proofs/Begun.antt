@@ -1,16 +1,15 @@
 -- A draft that has started: sound, with the facts that the start says and no rows.
-use Rattle.std.proofs.Common.{◌≡◌, ℕ, ◌+◌, ◌*◌, ◌%◌, ◌^◌, ◌<◌, ◌≤◌, Bool, true, false, cond, ◌&&◌, leb, ◌⊎◌, List, [], ◌∷◌, ◌++◌, map, length, get_or, replicate, ℤ, pos, Some, None, IsUtf8, sym, refl, ap, ◌∙◌, subst, inl, inr, ⊎_elim, arith, lit<, w64, SFits, rules}
+use Rattle.std.proofs.Common.{◌≡◌, ℕ, ◌+◌, ◌^◌, ◌<◌, ◌≤◌, ◌&&◌, leb, List, [], ◌++◌, map, length, get_or, ℤ, None, IsUtf8, sym, refl, ap, ◌∙◌, subst, ⊎_elim, arith, lit<, rules}
 use Rattle.std.specs.List.{range_with_len}
 use Rattle.std.specs.Option.{option_map}
 use Rattle.std.proofs.lemmas.Bool.{cases_eq, and_parts, leb-true}
 use Rattle.std.proofs.lemmas.List.{places, same_lists, length-append, length-replicate}
 use Rattle.lent_bytes.specs.Memory.{Bytes, portion, written}
-use Rattle.lent_bytes.specs.Fields.{u16_in, u32_in, i64_in, id_in, le8, be8, bytes8}
+use Rattle.lent_bytes.specs.Fields.{u16_in, u32_in, i64_in, id_in, be8}
 use Rattle.lent_bytes.proofs.Frames.{length-written, le2-bytes2, le4-bytes4, le8-bytes8, int8-ints8}
 use Rattle.blocks.specs.Layout.{version_in, rows_in, offset_in, capacity_in, kind_in, status_in, used_in, text_in, place_in, length_in, row_place}
-use Rattle.blocks.specs.Facts.{Facts, RowFact, facts, header_text, row_fact, row_facts, span_kind_of, status_of}
+use Rattle.blocks.specs.Facts.{facts, header_text, row_fact, row_facts, span_kind_of, status_of}
 use Rattle.blocks.specs.Lawful.{TextLawful}
-use Rattle.blocks.specs.First.{or_else}
 use Rattle.blocks.specs.declared.span_kind.StatusCode.TheVariants.{Unset}
 use Rattle.drafts.specs.declared.refusal.StartFault.TheVariants.{Kind, Memory, Text as StartText, NoRoom as StartNoRoom}
 use Rattle.drafts.specs.Calls.{Opening, SizedOpening}

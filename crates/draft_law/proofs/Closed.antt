@@ -1,21 +1,20 @@
 -- A draft that has ended: a lawful block with the facts that were held.
-use Rattle.std.proofs.Common.{◌≡◌, ℕ, ◌+◌, ◌<◌, ◌≤◌, List, [], ◌∷◌, ◌++◌, map, length, ℤ, None, sym, refl, ap, ◌∙◌, inl, arith, w64, SFits, of_z}
+use Rattle.std.proofs.Common.{◌≡◌, ℕ, ◌+◌, ◌≤◌, List, [], ◌∷◌, map, length, ℤ, sym, refl, ap, ◌∙◌, inl, arith, w64, SFits, of_z}
 use Rattle.lent_bytes.specs.Memory.{Bytes, portion, written}
 use Rattle.lent_bytes.specs.Fields.{i64_in, ints8}
-use Rattle.lent_bytes.proofs.Frames.{length-written, int8-ints8}
-use Rattle.keyed.specs.Keyed.{inserts, settled}
+use Rattle.lent_bytes.proofs.Frames.{int8-ints8}
+use Rattle.keyed.specs.Keyed.{inserts}
 use Rattle.keyed.proofs.Inserted.{inserts-all}
 use Rattle.blocks.specs.Layout.{rows_in, capacity_in, status_in, used_in, state_in}
-use Rattle.blocks.specs.Facts.{Facts, RowFact, facts, header_text, row_facts, span_kind_of, status_of}
-use Rattle.blocks.specs.Lawful.{Lawful, TextLawful}
+use Rattle.blocks.specs.Facts.{Facts, facts, row_facts, span_kind_of, status_of}
+use Rattle.blocks.specs.Lawful.{Lawful}
 use Rattle.blocks.proofs.Lawfully.{opened-exactly}
-use Rattle.drafts.specs.Calls.{Opening, Call, SizedOpening, SizedCalls}
 use Rattle.drafts.specs.Held.{stated, named, passed, made, nothing, row_of, same_id, held}
 use Rattle.drafts.specs.Search.{count}
 use Rattle.drafts.specs.Writes.{started, ended}
-use Rattle.drafts.specs.Memory.{start_fault, past, answers}
-use Rattle.draft_law.specs.Law.{WellBuilt, HoldsWhatWasSaid}
-use Rattle.block_laws.proofs.Kept.{Kept, byte-kept, byte-place, i64-kept, i64-place, id-kept, behind, ahead, then}
+use Rattle.drafts.specs.Memory.{past, answers}
+use Rattle.draft_law.specs.Law.{HoldsWhatWasSaid}
+use Rattle.block_laws.proofs.Kept.{Kept, byte-kept, byte-place, i64-kept, i64-place, id-kept, behind, ahead}
 use Rattle.block_laws.proofs.Sound.{Sound, Step, Head, head-80, head-88, head-96, head-104, head-112, kind-step}
 use Rattle.block_laws.proofs.Listed.{rows_same}
 use Rattle.draft_law.proofs.Headed.{flat_step}

@@ -1,15 +1,13 @@
 -- Ok is final.
-use Rattle.std.proofs.Common.{◌≡◌, ℕ, Bool, true, false, cond, ◌||◌, eqb, List, [], ◌∷◌, Some, None, Option, sym, refl, ap, ◌∙◌}
-use Rattle.blocks.specs.Layout.{status_in}
-use Rattle.blocks.specs.Facts.{Facts, facts}
+use Rattle.std.proofs.Common.{◌≡◌, ℕ, Bool, true, false, cond, List, [], ◌∷◌, None, Option, refl, ap, ◌∙◌}
+use Rattle.blocks.specs.Facts.{Facts}
 use Rattle.blocks.specs.declared.span_kind.StatusCode.{StatusCode}
-use Rattle.blocks.specs.declared.span_kind.StatusCode.TheVariants.{Unset, Ok, Error}
-use Rattle.drafts.specs.declared.refusal.Applied.{Applied}
+use Rattle.blocks.specs.declared.span_kind.StatusCode.TheVariants.{Ok}
 use Rattle.drafts.specs.declared.refusal.Refusal.{Refusal}
 use Rattle.drafts.specs.Calls.{Call, Set, Event, Link, Status, Rename}
-use Rattle.drafts.specs.Refused.{Answer, accepted}
-use Rattle.drafts.specs.Held.{Outcome, replacing, unless_ok, stated, unsaid, passed, held}
-use Rattle.drafts.specs.Memory.{status_stays, status_refusal, applied, answered, answer, after, answers}
+use Rattle.drafts.specs.Refused.{accepted}
+use Rattle.drafts.specs.Held.{Outcome, unless_ok, stated, unsaid, passed}
+use Rattle.drafts.specs.Memory.{status_stays, applied, answered, answer, after, answers}
 use Rattle.drafts.specs.Writes.{started}
 use Rattle.draft_law.specs.Law.{OkIsFinal, ErrorOkErrorIsOk}
 use Rattle.draft_law.proofs.Closed.{holds-what-was-said}

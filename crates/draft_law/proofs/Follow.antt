@@ -1,6 +1,6 @@
 -- One call: what it leaves of the facts, whatever its answer.
-use Rattle.std.proofs.Common.{◌≡◌, ℕ, zero, suc, ◌+◌, ◌<◌, ◌≤◌, Bool, true, false, cond, ◌&&◌, ◌||◌, eqb, leb, ◌⊎◌, List, [], ◌∷◌, ◌++◌, length, Some, None, Option, sym, refl, ap, ◌∙◌, subst, inl, inr, ⊎_elim, arith}
-use Rattle.std.proofs.lemmas.Bool.{cases_Bool, cond_both, eqb-true, eqb-false, ne_eqb, leb-true, or_parts, or_cases, or_right}
+use Rattle.std.proofs.Common.{◌≡◌, ℕ, zero, suc, ◌+◌, Bool, true, false, cond, eqb, leb, ◌⊎◌, List, [], length, Some, None, Option, sym, refl, ap, ◌∙◌, inl, inr, ⊎_elim, arith}
+use Rattle.std.proofs.lemmas.Bool.{cond_both, eqb-true, eqb-false, ne_eqb, leb-true, or_parts, or_cases, or_right}
 use Rattle.blocks.specs.Layout.{status_in}
 use Rattle.blocks.specs.Facts.{Facts, RowFact, facts, row_facts, status_of}
 use Rattle.blocks.specs.declared.span_kind.StatusCode.{StatusCode}
@@ -13,8 +13,8 @@ use Rattle.drafts.specs.Calls.{Call, Set, Event, Link, Status, Rename, SizedCall
 use Rattle.drafts.specs.Refused.{accepted, changes, full_refusal, list_full}
 use Rattle.drafts.specs.Held.{Outcome, Content, attribute_content, event_content, link_content, events_by, links_by, named, stated, replacing, unless_ok}
 use Rattle.drafts.specs.Search.{count, place_from}
-use Rattle.drafts.specs.Writes.{stored, headed, status_written, drop_more}
-use Rattle.drafts.specs.Memory.{set_refusal, status_stays, status_refusal, head_refusal, refusal, applied, answered, answer, done, counted, after}
+use Rattle.drafts.specs.Writes.{stored, status_written, drop_more}
+use Rattle.drafts.specs.Memory.{status_stays, status_refusal, head_refusal, refusal, applied, answered, answer, done, counted, after}
 use Rattle.block_laws.proofs.Sound.{Sound}
 use Rattle.draft_law.proofs.Tagged.{put, count-put, head-last, put-none}
 use Rattle.draft_law.proofs.Told.{outcome_of, changed}

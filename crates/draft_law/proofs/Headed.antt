@@ -1,11 +1,11 @@
 -- What a written text or number of the header leaves.
-use Rattle.std.proofs.Common.{◌≡◌, ℕ, ◌+◌, ◌*◌, ◌%◌, ◌^◌, ◌<◌, ◌≤◌, ◌⊎◌, List, [], ◌∷◌, ◌++◌, length, get_or, sym, refl, ap, ◌∙◌, ⊎_elim, arith}
+use Rattle.std.proofs.Common.{◌≡◌, ℕ, ◌+◌, ◌^◌, ◌<◌, ◌≤◌, ◌⊎◌, List, ◌++◌, length, refl, ◌∙◌, ⊎_elim, arith}
 use Rattle.lent_bytes.specs.Memory.{portion, written}
 use Rattle.lent_bytes.specs.Fields.{u32_in, bytes4}
 use Rattle.lent_bytes.proofs.Frames.{length-written, le4-bytes4}
-use Rattle.blocks.specs.Layout.{rows_in, offset_in, capacity_in, used_in, place_in, length_in, row_place}
+use Rattle.blocks.specs.Layout.{rows_in, offset_in, capacity_in, used_in, place_in, length_in}
 use Rattle.drafts.specs.Writes.{headed}
-use Rattle.block_laws.proofs.Kept.{Kept, byte-kept, u16-kept, u32-kept, portion-place, u32-place, behind, ahead, then, narrow, portion-whole}
+use Rattle.block_laws.proofs.Kept.{Kept, u16-kept, u32-kept, portion-place, u32-place, behind, ahead, then, narrow, portion-whole}
 use Rattle.block_laws.proofs.Sound.{Sound, Step, Head}
 use Rattle.draft_law.proofs.Rowed.{four}
 

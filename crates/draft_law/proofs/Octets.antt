@@ -1,10 +1,10 @@
 -- What is written of bytes is bytes.
-use Rattle.std.proofs.Common.{◌≡◌, ℕ, zero, suc, ◌+◌, ◌-◌, ◌/◌, ◌%◌, ◌<◌, ◌≤◌, List, [], ◌∷◌, ◌++◌, length, get_or, replicate, ℤ, sym, refl, ap, ◌∙◌, subst, ⊎_elim, arith}
+use Rattle.std.proofs.Common.{◌≡◌, ℕ, zero, suc, ◌+◌, ◌-◌, ◌%◌, ◌<◌, ◌≤◌, List, [], ◌∷◌, ◌++◌, length, get_or, replicate, ⊎_elim, arith}
 use Rattle.std.proofs.lemmas.Bool.{cases_lt}
 use Rattle.std.proofs.lemmas.List.{get_or_past, get_or-replicate, length-replicate}
 use Rattle.lent_bytes.specs.Memory.{Bytes, written}
-use Rattle.lent_bytes.specs.Fields.{bytes2, bytes4, bytes8, ints8}
-use Rattle.lent_bytes.proofs.Frames.{length-written, get_d-before, get_d_after, get_d-within}
+use Rattle.lent_bytes.specs.Fields.{bytes2, bytes4, bytes8}
+use Rattle.lent_bytes.proofs.Frames.{length-written, get_or-before, get_or-after, get_or-within}
 use Rattle.blocks.specs.Layout.{Row}
 use Rattle.drafts.specs.Writes.{row_bytes, id_bytes}
 
@@ -32,15 +32,15 @@ bytes-append xs ys a b = bytes_of (xs ++ ys) (octets-append xs ys (octets-of xs 
 pub bytes-written : (m : List ℕ) (at : ℕ) (s : List ℕ) → Bytes m → Bytes s → Bytes (written m at s)
 bytes-written m at s a b i =
     ⊎_elim
-    (λ (lt : i < at). let e = get_d-before m at s i 0 lt in omega (arith, a i))
+    (λ (lt : i < at). let e = get_or-before m at s i 0 lt in omega (arith, a i))
     (λ (ge : at ≤ i).
     ⊎_elim
     (λ (lt : i < at + length s).
     ⊎_elim
-    (λ (inside : i < length m). let e = get_d-within m at s i 0 ge lt inside in let z = b (i - at) in omega arith)
+    (λ (inside : i < length m). let e = get_or-within m at s i 0 ge lt inside in let z = b (i - at) in omega arith)
     (λ (out : length m ≤ i). let e = get_or_past (written m at s) i 0 (omega (arith, length-written m at s)) in omega arith)
     (cases_lt i (length m)))
-    (λ (out : at + length s ≤ i). let e = get_d_after m at s i 0 out in omega (arith, a i))
+    (λ (out : at + length s ≤ i). let e = get_or-after m at s i 0 out in omega (arith, a i))
     (cases_lt i (at + length s)))
     (cases_lt i at)
 

@@ -1,20 +1,17 @@
 -- Calls that change the header: another name, a status, and one more that was dropped.
-use Rattle.std.proofs.Common.{◌≡◌, ℕ, ◌+◌, ◌%◌, ◌<◌, ◌≤◌, min, Bool, true, false, cond, eqb, ◌⊎◌, List, [], ◌∷◌, ◌++◌, length, get_or, IsUtf8, sym, refl, ap, ◌∙◌, subst, inl, inr, ⊎_elim, arith}
+use Rattle.std.proofs.Common.{◌≡◌, ℕ, ◌+◌, ◌<◌, ◌≤◌, min, ◌⊎◌, List, [], ◌∷◌, ◌++◌, length, IsUtf8, sym, refl, ap, ◌∙◌, subst, inl, inr, ⊎_elim, arith}
 use Rattle.std.proofs.lemmas.Bool.{cases_eq, cases_lt}
 use Rattle.lent_bytes.specs.Memory.{Bytes, portion, written}
 use Rattle.lent_bytes.specs.Fields.{u32_in, bytes4}
-use Rattle.lent_bytes.proofs.Frames.{length-written}
 use Rattle.blocks.specs.Layout.{rows_in, offset_in, capacity_in, status_in, used_in, text_in, place_in, length_in, row_place, row_at}
 use Rattle.blocks.specs.Faults.{list_in}
 use Rattle.blocks.specs.Faults.{key_in}
-use Rattle.blocks.specs.Facts.{Facts, RowFact, facts, header_text, row_facts, status_of}
-use Rattle.blocks.specs.Lawful.{TextLawful, RowLawful}
-use Rattle.blocks.specs.declared.span_kind.StatusCode.{StatusCode}
-use Rattle.blocks.specs.declared.span_kind.StatusCode.TheVariants.{Unset, Ok, Error}
+use Rattle.blocks.specs.Facts.{facts, header_text, row_facts, status_of}
+use Rattle.blocks.specs.Lawful.{TextLawful}
 use Rattle.drafts.specs.Held.{Outcome}
 use Rattle.drafts.specs.Writes.{headed, drop_more}
-use Rattle.block_laws.proofs.Kept.{Kept, byte-kept, byte-place, u32-place, behind, ahead, narrow, then, portion-none}
-use Rattle.block_laws.proofs.Sound.{Sound, Step, Head, head-80, head-88, head-96, head-104, head-112, longest, offset_step, kind-step, text-step, sound-step}
+use Rattle.block_laws.proofs.Kept.{Kept, byte-kept, byte-place, u32-place, behind, ahead, narrow, portion-none}
+use Rattle.block_laws.proofs.Sound.{Sound, Step, Head, head-80, head-88, head-96, head-104, head-112, longest, offset_step, kind-step, sound-step}
 use Rattle.block_laws.proofs.Listed.{rows_same}
 use Rattle.draft_law.proofs.Headed.{pair_place, pair-length, headed-start, headed-front, headed-behind, has-place, has-length, has-text, headed-step, status-step, flat_step}
 use Rattle.draft_law.proofs.Octets.{bytes_of, bytes-append, bytes-written, bytes-four}

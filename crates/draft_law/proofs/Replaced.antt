@@ -1,17 +1,17 @@
 -- Another kind and value in a row that stood.
-use Rattle.std.proofs.Common.{◌≡◌, ℕ, ◌+◌, ◌-◌, ◌^◌, ◌<◌, ◌≤◌, List, [], ◌∷◌, ◌++◌, length, get_or, set, Some, None, sym, refl, ap, ◌∙◌, subst, arith}
-use Rattle.lent_bytes.specs.Memory.{Bytes, portion, written}
-use Rattle.blocks.specs.Layout.{rows_in, offset_in, capacity_in, status_in, used_in, text_in, row_place, Row, row_at}
+use Rattle.std.proofs.Common.{◌≡◌, ℕ, ◌+◌, ◌-◌, ◌<◌, ◌≤◌, List, length, set, Some, sym, ap, ◌∙◌, subst, arith}
+use Rattle.lent_bytes.specs.Memory.{portion}
+use Rattle.blocks.specs.Layout.{rows_in, offset_in, used_in, text_in, row_place, Row, row_at}
 use Rattle.blocks.specs.Faults.{list_in}
-use Rattle.blocks.specs.Faults.{above, key_in, longest_key}
-use Rattle.blocks.specs.Facts.{Facts, RowFact, facts, fact_at, row_fact, row_facts}
-use Rattle.blocks.specs.Lawful.{TextLawful, ValueLawful, RowLawful}
+use Rattle.blocks.specs.Faults.{key_in}
+use Rattle.blocks.specs.Facts.{RowFact, facts, fact_at, row_fact, row_facts}
+use Rattle.blocks.specs.Lawful.{ValueLawful, RowLawful}
 use Rattle.drafts.specs.Held.{Content}
 use Rattle.drafts.specs.Search.{place_from}
 use Rattle.drafts.specs.Writes.{row_bytes, rowed, valued}
 use Rattle.block_laws.proofs.Kept.{byte-kept, narrow, portion-whole}
-use Rattle.block_laws.proofs.Sound.{Sound, Step, Head, offset_step, text-step, text-lawful-step, list-step, key_step, above_step, sound-step}
-use Rattle.block_laws.proofs.Listed.{length-rows, get_d_rows, rows-replace}
+use Rattle.block_laws.proofs.Sound.{Sound, Step, offset_step, text-step, text-lawful-step, list-step, key_step, above_step, sound-step}
+use Rattle.block_laws.proofs.Listed.{length-rows, get_or-rows, rows-replace}
 use Rattle.draft_law.proofs.Rowed.{Fit, rowed-fixed, rowed-front, rowed-step, is_row, is-text}
 use Rattle.draft_law.proofs.Octets.{bytes-written, bytes-two, bytes-four, bytes-row}
 use Rattle.draft_law.proofs.Tagged.{row_from, put, put_some, Placed}
@@ -44,10 +44,10 @@ module _ (m : List ℕ) (so : Sound m) (l : ℕ) (k : List ℕ) (c : Content) (s
   none = omega arith
 
   list-was : q.list ≡ l
-  list-was = ap (λ (f : RowFact). f.list) (sym (get_d_rows m j (row_from l k c) here)) ∙ (rw none at (place.list-is (row_from l k c)))
+  list-was = ap (λ (f : RowFact). f.list) (sym (get_or-rows m j (row_from l k c) here)) ∙ (rw none at (place.list-is (row_from l k c)))
 
   key-was : key_in m q ≡ k
-  key-was = ap (λ (f : RowFact). f.key) (sym (get_d_rows m j (row_from l k c) here)) ∙ (rw none at (place.key-is (row_from l k c)))
+  key-was = ap (λ (f : RowFact). f.key) (sym (get_or-rows m j (row_from l k c) here)) ∙ (rw none at (place.key-is (row_from l k c)))
 
   ok : Fit m j (rows_in m) x t
   ok =

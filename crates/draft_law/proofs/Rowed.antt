@@ -1,5 +1,5 @@
 -- What a written row leaves: its own numbers, its texts, and all else.
-use Rattle.std.proofs.Common.{◌≡◌, ℕ, ◌+◌, ◌*◌, ◌^◌, ◌<◌, ◌≤◌, ◌⊎◌, List, [], ◌∷◌, ◌++◌, length, get_or, ℤ, sym, refl, ap, ◌∙◌, inl, inr, ⊎_elim, arith, w64, SFits}
+use Rattle.std.proofs.Common.{◌≡◌, ℕ, ◌+◌, ◌^◌, ◌<◌, ◌≤◌, List, length, get_or, refl, ◌∙◌, ⊎_elim, arith, w64, SFits}
 use Rattle.std.proofs.lemmas.Bool.{cases_lt}
 use Rattle.lent_bytes.specs.Memory.{portion, written}
 use Rattle.lent_bytes.specs.Fields.{u16_in, u32_in, i64_in, bytes2, bytes4}

@@ -1,25 +1,24 @@
 -- A row that is said is a lawful row, new or in place of one that stood.
-use Rattle.std.proofs.Common.{◌≡◌, ℕ, ◌+◌, ◌-◌, ◌^◌, ◌<◌, ◌≤◌, Bool, true, false, cond, ◌&&◌, eqb, ◌⊎◌, List, [], ◌∷◌, ◌++◌, length, get_or, drop, set, ℤ, pos, Some, None, IsUtf8, Option, sym, refl, ap, ◌∙◌, subst, inl, inr, ⊎_elim, arith, w64, SFits}
-use Rattle.std.specs.Str.{bytes_eq}
+use Rattle.std.proofs.Common.{◌≡◌, ℕ, ◌+◌, ◌<◌, ◌≤◌, false, cond, eqb, List, [], ◌∷◌, ◌++◌, length, drop, pos, None, IsUtf8, sym, refl, ap, ◌∙◌, subst, ⊎_elim, arith, w64, SFits}
 use Rattle.std.proofs.lemmas.Bool.Decides.{nat_tests}
 use Rattle.std.proofs.lemmas.Slice.Eq.{bytes_eq-Decides}
 use Rattle.std.proofs.lemmas.List.{length-append}
 use Rattle.std.proofs.lemmas.Bool.{cases_eq, and_from, both_ways, cond-true, cond-false, eq-eqb, ne_eqb}
-use Rattle.lent_bytes.specs.Memory.{Bytes, portion, written}
-use Rattle.blocks.specs.Layout.{rows_in, offset_in, capacity_in, kind_in, status_in, used_in, text_in, row_place, Row, row_at}
+use Rattle.lent_bytes.specs.Memory.{Bytes, portion}
+use Rattle.blocks.specs.Layout.{rows_in, offset_in, capacity_in, used_in, text_in, row_place, Row, row_at}
 use Rattle.blocks.specs.Faults.{list_in}
 use Rattle.blocks.specs.Faults.{above, least_key, longest_key, key_in}
-use Rattle.blocks.specs.Facts.{Facts, RowFact, facts, fact_at, row_fact, row_facts, status_of}
-use Rattle.blocks.specs.Lawful.{TextLawful, ValueLawful, RowLawful}
+use Rattle.blocks.specs.Facts.{RowFact, facts, fact_at, row_fact, row_facts, status_of}
+use Rattle.blocks.specs.Lawful.{ValueLawful, RowLawful}
 use Rattle.drafts.specs.Held.{Content}
-use Rattle.drafts.specs.Search.{count, hit, place_from}
-use Rattle.drafts.specs.Writes.{row_bytes, rowed, new_row, valued, stored}
-use Rattle.block_laws.proofs.Kept.{Kept, byte-kept, narrow, portion-first, portion-second, portion-whole, portion-none}
-use Rattle.block_laws.proofs.Sound.{Sound, Step, Head, head-80, head-88, head-96, head-104, head-112, offset_step, kind-step, text-step, text-lawful-step, list-step, key_step, above_step, sound-step}
-use Rattle.block_laws.proofs.Listed.{length-rows, get_d_rows, rows_append, rows-replace}
+use Rattle.drafts.specs.Search.{hit, place_from}
+use Rattle.drafts.specs.Writes.{row_bytes, rowed, new_row}
+use Rattle.block_laws.proofs.Kept.{Kept, byte-kept, narrow, portion-first, portion-second, portion-none}
+use Rattle.block_laws.proofs.Sound.{Sound, Step, Head, head-80, head-88, head-96, head-104, head-112, offset_step, kind-step, list-step, key_step, above_step, sound-step}
+use Rattle.block_laws.proofs.Listed.{length-rows, get_or-rows, rows_append}
 use Rattle.draft_law.proofs.Rowed.{Fit, rowed-fixed, rowed-front, rowed-step, is_row, is-text}
 use Rattle.draft_law.proofs.Octets.{bytes-append, bytes-written, bytes-two, bytes-four, bytes-row}
-use Rattle.draft_law.proofs.Tagged.{row_from, put, put-none, put_some, Placed, none-hit}
+use Rattle.draft_law.proofs.Tagged.{row_from, none-hit}
 use Rattle.draft_law.proofs.Told.{outcome_of, changed, head-kept, head-lawful, facts-step}
 
 -- what is said of a row is lawful by itself
@@ -135,7 +134,7 @@ module _ (m : List ℕ) (so : Sound m) (l : ℕ) (k : List ℕ) (c : Content) (s
   once e j lt li ke =
       let a : (row_fact m j).list ≡ l = sym (list-step m w _ _ _ so st ids j lt) ∙ li ∙ sym e in
       let b : (row_fact m j).key ≡ k = sym (key_step m w _ _ _ so st ids j lt) ∙ ke ∙ key-text in
-      let g = get_d_rows m j (row_fact m j) lt in
+      let g = get_or-rows m j (row_fact m j) lt in
       let f = none-hit l k 0 (row_facts m) (ro.fresh e) j (row_fact m j) (omega (arith, length-rows m)) in
       let n : hit l k (row_fact m j) (drop (j + 1) (row_facts m)) ≡ false = ap (λ y. hit l k y (drop (j + 1) (row_facts m))) (sym g) ∙ f in
       let own : hit 1 k (row_fact m j) (drop (j + 1) (row_facts m)) ≡ false = ap (λ y. hit y k (row_fact m j) (drop (j + 1) (row_facts m))) (sym e) ∙ n in

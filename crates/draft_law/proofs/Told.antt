@@ -1,6 +1,6 @@
 -- The facts of the header over a step, and its texts.
-use Rattle.std.proofs.Common.{◌≡◌, ℕ, ◌+◌, ◌<◌, ◌≤◌, List, sym, refl, ap, ◌∙◌, subst, arith}
-use Rattle.blocks.specs.Layout.{kind_in, status_in, used_in, text_in, place_in, length_in}
+use Rattle.std.proofs.Common.{◌≡◌, ℕ, ◌+◌, List, sym, ◌∙◌, subst, arith}
+use Rattle.blocks.specs.Layout.{kind_in, status_in, text_in, place_in, length_in}
 use Rattle.blocks.specs.Facts.{Facts, RowFact, facts, header_text, row_facts, span_kind_of, status_of}
 use Rattle.blocks.specs.Lawful.{TextLawful}
 use Rattle.drafts.specs.Held.{Outcome}

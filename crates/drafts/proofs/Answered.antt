@@ -1,8 +1,7 @@
 -- What a call answers and leaves, by its refusal.
-use Rattle.std.proofs.Common.{◌≡◌, ℕ, ◌<◌, ◌≤◌, Bool, true, false, cond, ◌||◌, eqb, List, length, Some, None, Ok, Err, Option, sym, refl, ap, ◌∙◌, arith}
+use Rattle.std.proofs.Common.{◌≡◌, ℕ, ◌<◌, ◌≤◌, Bool, true, false, cond, ◌||◌, eqb, List, Some, None, Ok, Err, Option, sym, refl, ap, ◌∙◌, arith}
 use Rattle.std.proofs.lemmas.Bool.Decides.{nat_tests}
 use Rattle.std.proofs.lemmas.Bool.{le-leb, lt-leb, eqb-true, or_right}
-use Rattle.blocks.specs.declared.span_kind.StatusCode.{StatusCode}
 use Rattle.blocks.specs.declared.span_kind.StatusCode.TheVariants.{Unset as StatusUnset, Ok as StatusOk, Error as StatusError}
 use Rattle.blocks.specs.Facts.{status_of}
 use Rattle.blocks.specs.Layout.{status_in}
@@ -12,7 +11,7 @@ use Rattle.drafts.specs.declared.refusal.Applied.TheVariants.{Changed, Unchanged
 use Rattle.drafts.specs.declared.refusal.Refusal.{Refusal}
 use Rattle.drafts.specs.declared.refusal.Refusal.TheVariants.{List as NoList, Owner, Status as NoStatus}
 use Rattle.drafts.specs.Calls.{Call, Set, Status}
-use Rattle.drafts.specs.Refused.{accepted, changes, list_full, full_refusal}
+use Rattle.drafts.specs.Refused.{accepted, full_refusal}
 use Rattle.drafts.specs.Writes.{status_written}
 use Rattle.drafts.specs.Memory.{settable, unowned, head_refusal, refusal, applied, answered, answer, done, counted, after}
 use Rattle.drafts.specs.Code.{content_refusal, set_chain}

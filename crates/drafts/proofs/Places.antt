@@ -1,7 +1,6 @@
 -- Where a row stands, as the code looks for it.
-use Rattle.std.proofs.Common.{◌≡◌, ℕ, zero, suc, ◌+◌, ◌-◌, ◌<◌, ◌≤◌, Bool, true, false, cond, ◌&&◌, eqb, ◌⊎◌, List, [], ◌∷◌, length, get_or, drop, Some, None, Option, sym, refl, ap, ◌∙◌, inl, inr, arith}
+use Rattle.std.proofs.Common.{◌≡◌, ℕ, zero, suc, ◌+◌, ◌-◌, ◌<◌, ◌≤◌, Bool, true, false, cond, ◌&&◌, eqb, ◌⊎◌, List, [], ◌∷◌, length, get_or, drop, Some, None, sym, refl, ap, ◌∙◌, inl, inr, arith}
 use Rattle.std.specs.Str.{bytes_eq}
-use Rattle.std.proofs.lemmas.Bool.Decides.{nat_tests}
 use Rattle.std.proofs.lemmas.List.{drop_more, drop_all, drop-drop}
 use Rattle.std.proofs.lemmas.Bool.{cond-true, cond-false, eq-eqb, ne_eqb}
 use Rattle.std.proofs.lemmas.List.FromFn.{length-map-range_with_len, get_or-map-range_with_len}
@@ -12,7 +11,7 @@ use Rattle.blocks.specs.Layout.{rows_in}
 use Rattle.blocks.specs.Faults.{list_in}
 use Rattle.blocks.specs.Facts.{RowFact, row_fact, row_facts}
 use Rattle.blocks.specs.Faults.{counted, above}
-use Rattle.drafts.specs.Search.{row_is_in, count, ownerless, hit, place_from}
+use Rattle.drafts.specs.Search.{count, ownerless, hit, place_from}
 use Rattle.drafts.specs.Code.{plain_from}
 use Rattle.blocks.proofs.Projected.{rows_mapped}
 
@@ -29,12 +28,12 @@ above-next m l i = let e : i + 1 ≡ suc i = omega arith in rw e
 length-rows : (m : List ℕ) → length (row_facts m) ≡ rows_in m
 length-rows m = ap length (rows_mapped m) ∙ length-map-range_with_len (row_fact m) 0 (rows_in m)
 
-get_d_rows : (m : List ℕ) (i : ℕ) (d : RowFact) → i < rows_in m → get_or (row_facts m) i d ≡ row_fact m i
-get_d_rows m i d h = ap (λ xs. get_or xs i d) (rows_mapped m) ∙ get_or-map-range_with_len (row_fact m) 0 (rows_in m) i i d h (omega arith)
+get_or-rows : (m : List ℕ) (i : ℕ) (d : RowFact) → i < rows_in m → get_or (row_facts m) i d ≡ row_fact m i
+get_or-rows m i d h = ap (λ xs. get_or xs i d) (rows_mapped m) ∙ get_or-map-range_with_len (row_fact m) 0 (rows_in m) i i d h (omega arith)
 
 pub rows_more : (m : List ℕ) (i : ℕ) → i < rows_in m → drop i (row_facts m) ≡ row_fact m i ∷ drop (i + 1) (row_facts m)
 rows_more m i h =
-    let e = get_d_rows m i (row_fact m i) h in
+    let e = get_or-rows m i (row_fact m i) h in
     drop_more (row_facts m) i (row_fact m i) (omega (arith, length-rows m)) ∙ ap (λ x. x ∷ drop (i + 1) (row_facts m)) e
 
 pub rows_all : (m : List ℕ) (i : ℕ) → rows_in m ≤ i → drop i (row_facts m) ≡ []

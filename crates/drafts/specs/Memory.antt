@@ -1,5 +1,5 @@
 -- What calls answer, and what they leave in memory, whatever it holds.
-use Rattle.std.specs.Prelude.{ℕ, ◌+◌, min, Bool, true, false, cond, ◌&&◌, ◌||◌, List, [], ◌∷◌, length, Some, None, Ok, Err, Option, ◌==◌, nat_le, nat_lt}
+use Rattle.std.specs.Prelude.{ℕ, ◌+◌, min, Bool, cond, ◌&&◌, ◌||◌, List, [], ◌∷◌, length, Some, None, Ok, Err, Option, ◌==◌, nat_le, nat_lt}
 use Rattle.std.specs.Option.{option_map}
 use Rattle.values.specs.Unicode.{is_text}
 use Rattle.values.specs.Faults.{value_fault}
@@ -20,7 +20,7 @@ use Rattle.drafts.specs.Calls.{Opening, Call, Set, Event, Link, Status, Rename}
 use Rattle.drafts.specs.Refused.{Answer, changes, list_full}
 use Rattle.drafts.specs.Held.{attribute_content, event_content, link_content}
 use Rattle.drafts.specs.Search.{place_from}
-use Rattle.drafts.specs.Writes.{stored, headed, status_written, drop_more, opening_texts, started}
+use Rattle.drafts.specs.Writes.{stored, headed, status_written, drop_more, opening_texts}
 
 -- a text of at most so many bytes
 abbrev pub text_refusal : ℕ → List ℕ → Option TextFault

@@ -1,5 +1,5 @@
 -- What calls write: rows, texts of the header and numbers of the header.
-use Rattle.std.specs.Prelude.{ℕ, ◌+◌, ◌*◌, ◌/◌, ◌%◌, min, Bool, cond, List, [], ◌∷◌, ◌++◌, length, replicate, ℤ, pos, Some, None, Option, ◌==◌}
+use Rattle.std.specs.Prelude.{ℕ, ◌+◌, ◌/◌, ◌%◌, min, cond, List, [], ◌∷◌, ◌++◌, length, replicate, ℤ, Some, None, Option, ◌==◌}
 use Rattle.lent_bytes.specs.Memory.{written}
 use Rattle.lent_bytes.specs.Fields.{u32_in, bytes2, bytes4, ints8}
 use Rattle.blocks.specs.Layout.{rows_in, offset_in, used_in, row_place, Row, row_at}

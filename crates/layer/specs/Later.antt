@@ -1,5 +1,5 @@
 -- A later edition of the conventions: databases have other names in it.
-use Rattle.std.specs.Prelude.{ℕ, Bool, cond, ◌||◌, List, [], ◌∷◌, Some, None, codes, Option, ◌==◌}
+use Rattle.std.specs.Prelude.{ℕ, Bool, cond, ◌||◌, List, [], ◌∷◌, codes, ◌==◌}
 use Rattle.std.specs.Option.{option_map}
 use Rattle.readers.specs.Reading.{Known, Reading}
 use Rattle.readers.specs.Tables.{Pair, to, entry_for}

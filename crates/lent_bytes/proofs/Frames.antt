@@ -42,17 +42,17 @@ module _ (m : List ℕ) (at : ℕ) (s : List ℕ) where
   portion-written n e f = same_lists _ _ (search (rules, places)) (λ k d l. grind (arith, places))
 
   -- each byte
-  pub get_d-before : (k d : ℕ) → k < at → get_or (written m at s) k d ≡ get_or m k d
+  pub get_or-before : (k d : ℕ) → k < at → get_or (written m at s) k d ≡ get_or m k d
   unfolding written
-  get_d-before k d h = grind (arith, places)
+  get_or-before k d h = grind (arith, places)
 
-  pub get_d_after : (k d : ℕ) → at + length s ≤ k → get_or (written m at s) k d ≡ get_or m k d
+  pub get_or-after : (k d : ℕ) → at + length s ≤ k → get_or (written m at s) k d ≡ get_or m k d
   unfolding written
-  get_d_after k d h = grind (arith, places)
+  get_or-after k d h = grind (arith, places)
 
-  pub get_d-within : (k d : ℕ) → at ≤ k → k < at + length s → k < length m → get_or (written m at s) k d ≡ get_or s (k - at) d
+  pub get_or-within : (k d : ℕ) → at ≤ k → k < at + length s → k < length m → get_or (written m at s) k d ≡ get_or s (k - at) d
   unfolding written
-  get_d-within k d h g l = grind (arith, places)
+  get_or-within k d h g l = grind (arith, places)
 
   -- a write over another, as long or longer
   pub written_over : (t : List ℕ) → length s ≤ length t → written (written m at s) at t ≡ written m at t
@@ -69,7 +69,7 @@ unfolding written
 written_none m at = same_lists _ _ (search (rules, places)) (λ k d l. grind (arith, places))
 
 -- a byte after writes that stay shut
-ruleset spots = (arith, length-written, get_d-before, get_d_after, get_d-within)
+ruleset spots = (arith, length-written, get_or-before, get_or-after, get_or-within)
 
 module _ (m : List ℕ) (at : ℕ) (s t : List ℕ) where
   -- one write behind another is one write
@@ -112,5 +112,5 @@ module _ (m : List ℕ) (at : ℕ) (s : List ℕ) {X : Type 0} (F : List ℕ →
   pub read-written : (n : ℕ) → n ≡ length s → at + n ≤ length m → F (portion (written m at s) at n) ≡ F s
   read-written n e h = ap F (portion-written m at s n e h)
 
--- for `search (needs, frames)`
+-- for `search (rules, frames)`
 pub ruleset frames = (length-written, portion-before, portion-after, portion-within, portion-written, le2-bytes2, le4-bytes4, le8-bytes8)

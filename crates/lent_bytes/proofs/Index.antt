@@ -16,7 +16,7 @@ module _ (k : List ℕ) (ts : List (List ℕ)) (i : ℕ) where
   pub index-none : length ts ≤ i → index_from i k (drop i ts) ≡ None
   index-none h = ap (index_from i k) (drop_all i ts h)
 
--- for `search (needs, looks)`
+-- for `search (rules, looks)`
 pub ruleset looks = (index-hit, index-miss, index-none)
 
 -- texts that are the same, and texts that are not

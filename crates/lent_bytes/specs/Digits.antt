@@ -1,4 +1,4 @@
--- Lower case hex digits. Decimals are std's `decimal` and `signed`.
+-- Lower case hex digits. Decimals are std's `decimal` and `signed_decimal`.
 use Rattle.std.specs.Prelude.{ℕ, ◌+◌, ◌/◌, ◌%◌, cond, List, [], ◌∷◌, nat_lt}
 
 abbrev pub hex_digit : ℕ → ℕ

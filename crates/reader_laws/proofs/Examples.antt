@@ -1,5 +1,4 @@
 use Rattle.std.proofs.Common.{refl}
-use Rattle.blocks.specs.declared.span_kind.SpanKind.{SpanKind}
 use Rattle.reader_laws.specs.Examples.{WorkedExamples}
 
 pub worked-examples : WorkedExamples

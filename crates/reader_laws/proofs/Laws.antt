@@ -1,16 +1,16 @@
 -- The fields of a reading are those of the reading with its older names put as later, so equal readings give equal fields.
-use Rattle.std.proofs.Common.{◌≡◌, ℕ, ◌<◌, Bool, true, false, cond, ltb, List, [], ◌∷◌, ◌++◌, Some, None, codes, Option, sym, refl, ap, ◌∙◌, ⊎_elim}
+use Rattle.std.proofs.Common.{◌≡◌, ℕ, ◌<◌, cond, ltb, [], ◌∷◌, ◌++◌, codes, Option, sym, refl, ap, ◌∙◌, ⊎_elim}
 use mathlib.Core.Path.{fun_ext}
-use Rattle.std.proofs.lemmas.Bool.{cases_Bool, ltb-true, cond-true, cond-false}
+use Rattle.std.proofs.lemmas.Bool.{cases_Bool, ltb-true, cond-false}
 use Rattle.blocks.specs.declared.span_kind.SpanKind.{SpanKind}
 use Rattle.blocks.specs.declared.span_kind.SpanKind.TheVariants.{Internal, Server, Client, Producer, Consumer}
-use Rattle.readers.specs.Reading.{Known, Reading, text_of}
-use Rattle.readers.specs.Texts.{or_else, or_absent, if_given, span_text, res_span_text, first_span_text, first_resource_text}
-use Rattle.derived.specs.OperationName.{lowered, if_both, is_http, query_name, messaging_name, rpc_client_name, rpc_server_name, invoked_name, triggered_name, graphql_name, request_name, client_name, server_name, message_name, name_by_kind, operation_name}
-use Rattle.derived.specs.ResourceName.{beside, detailed, method_name, method_of, route_by, http_resource, messaging_resource, rpc_resource, graphql_resource, asked_text, only_if, database_resource, given_resource, resource_by_use, resource_name}
-use Rattle.derived.specs.Fields.{client_type, type_by_kind, span_type, environment, service_name, code_under, status_code, or_number, or_zero, own_text, field_name, field_resource, field_type, field_service, field_environment, field_status_code, Fields, fields}
+use Rattle.readers.specs.Reading.{Reading, text_of}
+use Rattle.readers.specs.Texts.{or_else, or_absent, if_given, span_text, res_span_text}
+use Rattle.derived.specs.OperationName.{lowered, if_both, is_http, query_name, messaging_name, rpc_client_name, rpc_server_name, invoked_name, triggered_name, graphql_name, request_name, client_name, server_name, name_by_kind}
+use Rattle.derived.specs.ResourceName.{beside, detailed, method_name, method_of, route_by, http_resource, messaging_resource, rpc_resource, graphql_resource, asked_text, only_if, database_resource, given_resource, resource_by_use}
+use Rattle.derived.specs.Fields.{client_type, type_by_kind, code_under, or_number, or_zero, own_text, field_name, field_resource, field_type, field_environment, field_status_code, fields}
 use Rattle.readers.specs.Places.{http_method, http_request_method, http_status_code, http_response_status_code, db_system, db_system_name, db_statement, db_query_text, messaging_system, messaging_operation, messaging_operation_type, messaging_destination, messaging_destination_name, deployment_environment, deployment_environment_name, datadog_name, datadog_resource, datadog_type, datadog_env, datadog_http_status_code, span_type as typeKey, operation_name as nameKey}
-use Rattle.reader_laws.specs.Alike.{Names, renamings, or_other, put_later, in_later_names, Alike, occurs, UsedDoubly, NoneDoubly, DeriveAlike}
+use Rattle.reader_laws.specs.Alike.{Names, renamings, in_later_names, Alike, UsedDoubly, NoneDoubly, DeriveAlike}
 use Rattle.reader_laws.proofs.Pairs.{SamePair, same-pair}
 
 -- the reading with its older names put as later

@@ -1,5 +1,5 @@
 -- Under either name the same is derived, where only one of the two is used.
-use Rattle.std.proofs.Common.{◌≡◌, ℕ, Bool, true, false, ◌||◌, List, [], ◌∷◌, is_some, Some, None, Option, sym, refl}
+use Rattle.std.proofs.Common.{◌≡◌, ℕ, true, ◌||◌, List, [], ◌∷◌, is_some, Some, None, Option, refl}
 use Rattle.readers.specs.Reading.{Known, text_of, number_of, bytes_of}
 use Rattle.readers.specs.Texts.{or_else, or_absent, or_span}
 use Rattle.derived.specs.Fields.{narrowed, or_number}

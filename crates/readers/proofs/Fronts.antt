@@ -1,5 +1,5 @@
 -- A text out of the memory that it was written to.
-use Rattle.std.proofs.Common.{◌≡◌, ℕ, ◌≤◌, min, List, ◌++◌, map, length, take, drop, sym, refl, ap, ◌∙◌, arith, length-drop, length-take}
+use Rattle.std.proofs.Common.{◌≡◌, ℕ, ◌≤◌, min, List, ◌++◌, map, length, take, sym, ap, ◌∙◌, arith, length-drop, length-take}
 use Rattle.lent_bytes.specs.Memory.{portion, padded}
 use Rattle.lent_bytes.proofs.Clips.{take-padded, front}
 use Rattle.std.proofs.lemmas.List.{take_at, length-map}

@@ -1,5 +1,5 @@
--- The places of the known keys, by name. `Named-by-key` says that each is the place of its key.
-use Rattle.std.specs.Prelude.{◌≡◌, ℕ, List, [], ◌∷◌, map, Some, codes}
+-- The places of the known keys, by name. `NamedByKey` says that each is the place of its key.
+use Rattle.std.specs.Prelude.{◌≡◌, ℕ, Some, codes}
 use Rattle.names.specs.Keys.{known}
 
 abbrev pub datadog_service : ℕ

@@ -1,5 +1,5 @@
 -- Texts in memory, and which of several texts counts.
-use Rattle.std.specs.Prelude.{◌≡◌, ℕ, Bool, true, false, cond, List, [], ◌∷◌, map, length, Some, None, Option}
+use Rattle.std.specs.Prelude.{◌≡◌, ℕ, List, [], ◌∷◌, map, length, Some, None, Option}
 use Rattle.lent_bytes.specs.Memory.{padded}
 use Rattle.names.specs.declared.attribute_keys.AttributeKey.{AttributeKey}
 use Rattle.readers.specs.Reading.{Reading, text_of, bytes_of, size_of}

@@ -1,5 +1,5 @@
 -- What is noted of a row, by its list.
-use Rattle.std.proofs.Common.{◌≡◌, ℕ, eqb, List, [], Option, sym, refl, ap, ◌∙◌}
+use Rattle.std.proofs.Common.{◌≡◌, ℕ, eqb, List, [], Option, sym, ap, ◌∙◌}
 use Rattle.std.specs.Option.{option_map}
 use Rattle.std.proofs.lemmas.Bool.{eq-eqb, ne_eqb, cond-true, cond-false}
 use Rattle.names.specs.Keys.{key_at, known}

@@ -13,7 +13,6 @@ use Rattle.names.proofs.Lasts.{lasts-noted}
 use Rattle.blocks.specs.Facts.{RowFact, facts, row_fact, row_facts}
 use Rattle.blocks.specs.Layout.{rows_in}
 use Rattle.blocks.proofs.Projected.{row-there, row-past}
-use Rattle.readers.specs.Reading.{Reading}
 use Rattle.span_args.specs.ReadingOf.{list_key, or_row, last_row_of, row_in, span_known, resource_shown, reading_of, reading_by}
 use Rattle.blocks.proofs.Projected.{rows_mapped}
 
@@ -48,10 +47,10 @@ length-counting : (n i : ℕ) → length (range_with_len i n) ≡ n
 length-counting zero i = refl
 length-counting (suc n) i = ap suc (length-counting n (i + 1))
 
-get_d-counting : (n i j : ℕ) → j < n → get_or (range_with_len i n) j 0 ≡ i + j
-get_d-counting zero i j h = absurd (omega arith)
-get_d-counting (suc n) i zero h = omega arith
-get_d-counting (suc n) i (suc j) h = get_d-counting n (i + 1) j (omega arith) ∙ omega arith
+get_or-counting : (n i j : ℕ) → j < n → get_or (range_with_len i n) j 0 ≡ i + j
+get_or-counting zero i j h = absurd (omega arith)
+get_or-counting (suc n) i zero h = omega arith
+get_or-counting (suc n) i (suc j) h = get_or-counting n (i + 1) j (omega arith) ∙ omega arith
 
 -- the keys of the rows of a list
 abbrev pub list_keys : ℕ → List ℕ → List (List ℕ)
@@ -67,7 +66,7 @@ key-at l m i h =
     let z : 0 + i ≡ i = omega arith in
     ap (λ xs. get_or (map (list_key l) xs) i []) (rows_mapped m)
     ∙ get_or-map (list_key l) (map (row_fact m) (range_with_len 0 (rows_in m))) i (row_fact m 0) [] d
-    ∙ ap (list_key l) (get_or-map (row_fact m) (range_with_len 0 (rows_in m)) i 0 (row_fact m 0) c ∙ ap (row_fact m) (get_d-counting (rows_in m) 0 i h ∙ z))
+    ∙ ap (list_key l) (get_or-map (row_fact m) (range_with_len 0 (rows_in m)) i 0 (row_fact m 0) c ∙ ap (row_fact m) (get_or-counting (rows_in m) 0 i h ∙ z))
 
 -- a row that was noted is there
 in_rows : (m k : List ℕ) (ks : List (List ℕ)) (o : Option ℕ) → length ks ≡ rows_in m → LastAt k ks o → row_in m o ≡ option_map (row_fact m) o

@@ -1,4 +1,4 @@
--- The test says what `Utf8` says.
+-- The test says what `IsUtf8` says.
 use Rattle.std.proofs.Common.{ℕ, List, IsUtf8, Decides}
 use lib.Utf8.{encodes, scalars}
 use Rattle.std.specs.Str.{chars}

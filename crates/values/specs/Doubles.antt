@@ -1,4 +1,4 @@
--- Which whole number a double is, by IEEE 754's meaning of a pattern: `of_bits binary64`, of `lib.Ieee`.
+-- Which whole number a double is, by IEEE 754's meaning of a pattern: `from_bits binary64`.
 use Rattle.std.specs.Prelude.{◌≡◌, ℕ, ◌+◌, ◌*◌, ◌/◌, ◌%◌, ◌^◌, Bool, true, false, cond, ℤ, pos, neg_ℤ, Some, None, Option, ◌==◌, nat_le, nat_lt, unsigned_abs, Float}
 use Rattle.std.specs.Float.Ieee.Exact.{HasValue}
 use Rattle.std.specs.Float.{nan, inf, fin}

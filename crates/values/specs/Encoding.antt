@@ -1,4 +1,4 @@
--- The bytes of a value, from the value: the format in its own words. `Accepted-exactly` says that the values which bytes are
+-- The bytes of a value, from the value: the format in its own words. `AcceptedExactly` says that the values which bytes are
 -- read as are just those whose encoding they are.
 use Rattle.std.specs.Prelude.{◌≡◌, ℕ, ◌^◌, ◌<◌, ◌≤◌, Bool, true, false, List, [], ◌∷◌, ◌++◌, length, Some, FitsSigned}
 use Rattle.std.specs.Int.{w64}

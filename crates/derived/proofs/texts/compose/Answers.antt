@@ -1,4 +1,4 @@
-use Rattle.std.proofs.Common.{◌≤◌, ◌++◌, length, append_assoc, arith, length-append}
+use Rattle.std.proofs.Common.{arith, length-append}
 use Rattle.lent_bytes.proofs.Clips.{pushed_more}
 use Rattle.derived.proofs.Filling.{filled}
 use Rattle.derived.proofs.texts.compose.Goals as goal

@@ -1,4 +1,4 @@
-use Rattle.std.proofs.Common.{◌≡◌, w64}
+use Rattle.std.proofs.Common.{w64}
 use mir.ValLaws.{to_z-of_z}
 use Rattle.blocks.specs.Lists.{list_number}
 use Rattle.drafts.proofs.Appended.{append-is}

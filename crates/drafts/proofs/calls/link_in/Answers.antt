@@ -1,4 +1,4 @@
-use Rattle.std.proofs.Common.{◌≡◌, sym, refl, rules}
+use Rattle.std.proofs.Common.{sym, refl, rules}
 use Rattle.drafts.specs.Calls.{Link}
 use Rattle.drafts.proofs.Answered.{refused, changed}
 use Rattle.drafts.proofs.calls.link_in.Goals as goal

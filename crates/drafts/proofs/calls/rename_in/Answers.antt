@@ -1,4 +1,4 @@
-use Rattle.std.proofs.Common.{◌≡◌, sym, refl, rules}
+use Rattle.std.proofs.Common.{sym, refl, rules}
 use Rattle.drafts.specs.Calls.{Rename}
 use Rattle.drafts.proofs.Answered.{refused, changed, still}
 use Rattle.drafts.proofs.calls.rename_in.Goals as goal

@@ -1,6 +1,4 @@
-use Rattle.std.proofs.Common.{◌≡◌, sym, ap, rules}
-use Rattle.drafts.specs.Held.{attribute_content}
-use Rattle.drafts.specs.Writes.{stored}
+use Rattle.std.proofs.Common.{sym, rules}
 use Rattle.drafts.proofs.Answered.{refused-set, changed-set}
 use Rattle.drafts.proofs.calls.set_in.Goals as goal
 

@@ -1,4 +1,4 @@
-use Rattle.std.proofs.Common.{◌≡◌, ◌+◌, ◌-◌, ◌<◌, drop, sym, ap, ◌∙◌, arith, rules}
+use Rattle.std.proofs.Common.{◌≡◌, ◌+◌, ◌-◌, ◌<◌, drop, ap, ◌∙◌, arith, rules}
 use Rattle.blocks.specs.Lists.{list_number}
 use Rattle.blocks.specs.Layout.{rows_in}
 use Rattle.blocks.specs.Faults.{list_in}

@@ -1,4 +1,4 @@
-use Rattle.std.proofs.Common.{◌≡◌, ◌≤◌, sym, ap, ◌∙◌, arith, rules}
+use Rattle.std.proofs.Common.{arith, rules}
 use Rattle.drafts.proofs.Places.{above-none, above-next}
 use Rattle.drafts.proofs.rows.count_rows.Goals as goal
 

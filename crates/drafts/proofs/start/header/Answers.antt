@@ -1,4 +1,3 @@
-use Rattle.std.proofs.Common.{◌≡◌, rules}
 use Rattle.drafts.specs.Calls.{opening_of}
 use Rattle.drafts.proofs.Started.{head-is}
 use Rattle.drafts.proofs.start.header.Goals as goal

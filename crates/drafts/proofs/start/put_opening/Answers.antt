@@ -1,4 +1,4 @@
-use Rattle.std.proofs.Common.{◌≡◌, refl, rules}
+use Rattle.std.proofs.Common.{refl}
 use Rattle.drafts.specs.Calls.{opening_of}
 use Rattle.drafts.proofs.Started.{texts-behind}
 use Rattle.drafts.proofs.start.put_opening.Goals as goal

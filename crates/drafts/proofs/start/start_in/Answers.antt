@@ -1,4 +1,4 @@
-use Rattle.std.proofs.Common.{◌≡◌, length}
+use Rattle.std.proofs.Common.{length}
 use Rattle.drafts.specs.Calls.{opening_of}
 use Rattle.drafts.proofs.Started.{started-is}
 use Rattle.drafts.proofs.start.start_in.Goals as goal

@@ -1,4 +1,4 @@
-use Rattle.std.proofs.Common.{◌≡◌, sym, refl, arith, length-append, rules}
+use Rattle.std.proofs.Common.{length-append, rules}
 use Rattle.drafts.proofs.start.texts_len.Goals as goal
 
 pub returns : goal.returns

@@ -1,4 +1,4 @@
-use Rattle.std.proofs.Common.{◌≡◌, rules}
+use Rattle.std.proofs.Common.{rules}
 use Rattle.lent_bytes.specs.Fields.{bytes8}
 use Rattle.lent_bytes.proofs.Frames.{written-append}
 use Rattle.drafts.proofs.typed.put_double.Goals as goal

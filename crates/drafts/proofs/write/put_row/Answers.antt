@@ -1,4 +1,4 @@
-use Rattle.std.proofs.Common.{◌≡◌, sym, ap, ◌∙◌, arith, length-append, rules}
+use Rattle.std.proofs.Common.{length-append}
 use Rattle.drafts.proofs.write.put_row.Goals as goal
 
 pub returns : goal.returns

@@ -1,4 +1,4 @@
-use Rattle.std.proofs.Common.{arith, rules}
+use Rattle.std.proofs.Common.{rules}
 use Rattle.lent_bytes.proofs.Frames.{written-append}
 use Rattle.drafts.proofs.write.put_texts.Goals as goal
 

@@ -1,4 +1,4 @@
-use Rattle.std.proofs.Common.{◌≡◌, ◌<◌, sym, ◌∙◌, arith}
+use Rattle.std.proofs.Common.{sym, ◌∙◌, arith}
 use Rattle.notation.proofs.Numerals.{room-more, room_fits, number_more, number-none, number-end, pattern_number}
 use Rattle.notation.proofs.hex.pattern.Goals as goal
 

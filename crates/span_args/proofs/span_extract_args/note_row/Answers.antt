@@ -1,4 +1,4 @@
-use Rattle.std.proofs.Common.{◌≡◌, arith}
+use Rattle.std.proofs.Common.{arith}
 use Rattle.blocks.specs.Facts.{fact_of}
 use Rattle.span_args.proofs.Noting.{of-list, of_other}
 use Rattle.span_args.proofs.span_extract_args.note_row.Goals as goal

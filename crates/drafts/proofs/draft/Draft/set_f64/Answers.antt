@@ -1,4 +1,4 @@
-use Rattle.std.proofs.Common.{◌≡◌, sym, refl, ap, ◌∙◌, rules}
+use Rattle.std.proofs.Common.{refl, rules}
 use Rattle.blocks.specs.Lists.{list_number}
 use Rattle.drafts.proofs.Unformed.{long-alike, double-is}
 use Rattle.drafts.proofs.draft.Draft.set_f64.Goals as goal

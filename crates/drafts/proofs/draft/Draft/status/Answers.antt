@@ -1,4 +1,4 @@
-use Rattle.std.proofs.Common.{◌≡◌, sym, refl, ◌∙◌, rules}
+use Rattle.std.proofs.Common.{sym, refl, ◌∙◌, rules}
 use Rattle.drafts.proofs.Answered.{refused-status, becomes-error, becomes-ok, stays-ok, stays-unset}
 use Rattle.drafts.proofs.draft.Draft.status.Goals as goal
 
