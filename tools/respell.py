@@ -20,6 +20,21 @@ CHOSEN = {
     "lastRow": "last_row_of",
     "rowIs": "row_is_in",
     "setRoom": "room_of_set",
+    "is-text": "text_stands",
+    "later-edition": "later_layer",
+    "least-key": "long_enough",
+    "nth-head": "nth_head_lem",
+    "of-list": "of_list_lem",
+    # a lemma that would have its function's name
+    "checked-is-never-clipped": "checked_is_never_clipped_lem",
+    "derive-alike": "derive_alike_lem",
+    "holds-what-was-said": "holds_what_was_said_lem",
+    "inserted-in-order": "inserted_in_order_lem",
+    "last-exactly": "last_exactly_lem",
+    "ok-is-final": "ok_is_final_lem",
+    "owned-exactly": "owned_exactly_lem",
+    "whole-exactly": "whole_exactly_lem",
+    "worked-examples": "worked_examples_lem",
 }
 # crates that have the name of a library of the toolchain
 CRATES = {"bytes": "lent_bytes"}
@@ -55,6 +70,52 @@ def respelled(name):
     return "-".join(snake(p) if p and p[0].islower() else p for p in parts)
 
 
+def words_of_library():
+    """The names that the files import, but for those of this repository's proofs."""
+    found = set()
+    for path in files(".antt"):
+        for m in re.finditer(r"^use ([^\s{]+)\.\{([^}]*)\}", text(path), re.M):
+            if re.match(r"Rattle\.\w+\.proofs\.", m[1]) and not m[1].startswith("Rattle.std."):
+                continue
+            found |= {w.strip().split(" as ")[0] for w in m[2].split(",")}
+    return found
+
+
+def dashed_names():
+    """Names with dashes, each with whether it is a field or a constructor; a goal's name is Rattle's."""
+    found = {}
+    for path in files(".antt"):
+        block = None
+        for line in text(path).split("\n"):
+            if re.match(r"^\s*(?:pub )?(record|data|module)\b.*\bwhere\b", line):
+                block = re.match(r"^\s*(?:pub )?(\w+)", line)[1]
+            elif line and not line[0].isspace():
+                block = None
+            m = HEAD.match(line)
+            if not m or "-" not in m[1] or ": goal." in line or line.lstrip().startswith(("--", "use ")):
+                continue
+            if re.fullmatch(r"[A-Za-z][A-Za-z0-9_'-]*", m[1]):
+                found[m[1]] = block in ("record", "data")
+    return found
+
+
+def undashed(name, inside, known):
+    """Fields are in snake case; elsewhere a dash joins two names, and a plain word is added with _."""
+    if name in CHOSEN:
+        return CHOSEN[name]
+    parts = name.split("-")
+    out = parts[0]
+    for before, part in zip(parts, parts[1:]):
+        joins = not inside and before in known and part in known
+        out += ("-" if joins else "_") + part
+    return out
+
+
+def dash_table():
+    known = words_of_library() | {n for n in own_names() if "-" not in n}
+    return {n: undashed(n, inside, known) for n, inside in sorted(dashed_names().items()) if undashed(n, inside, known) != n}
+
+
 def own_names():
     found = {}
     for path in files(".antt"):
@@ -83,6 +144,11 @@ def table():
 
 def turn(t, rows):
     return WORD.sub(lambda m: rows.get(m[0], m[0]), t)
+
+
+def turn_dashes(t, rows, fields):
+    """A lemma's name never stands behind a dot: there it is a field, or a step of a goal."""
+    return WORD.sub(lambda m: rows[m[0]] if m[0] in rows and (m[0] in fields or t[m.start() - 1 : m.start()] != ".") else m[0], t)
 
 
 QUIET = re.compile(r'//[^\n]*|b?"(?:\\.|[^"\\])*"|b?\'(?:\\.|[^\'\\])\'', re.S)
@@ -119,12 +185,19 @@ def move_crates():
 def main():
     rows = table()
     if "--list" in sys.argv:
-        for old, new in rows.items():
+        for old, new in [*rows.items(), *dash_table().items()]:
             print(old, new)
         return
     for path in [*files(".antt"), *files(".rt")]:
         old = text(path)
         new = turn_rt(old, rows) if path.endswith(".rt") else turn(old, rows)
+        if new != old:
+            with open(path, "w", encoding="utf-8") as f:
+                f.write(new)
+    dashes, fields = dash_table(), {n for n, inside in dashed_names().items() if inside}
+    for path in files(".antt"):
+        old = text(path)
+        new = turn_dashes(old, dashes, fields)
         if new != old:
             with open(path, "w", encoding="utf-8") as f:
                 f.write(new)
