@@ -51,12 +51,12 @@ module _ (m : List ℕ) (h a : ℕ) where
       let e = shared h a apart (row_facts m) ∙ ap (λ us. us ++ under (owning h a (row_facts m))) (sym w ∙ n) in
       record { heads = heads h a (row_facts m); attributes = sym e }
 
-apart-34 : (l : ℕ) → eqb l 3 ≡ true → eqb l 4 ≡ false
-apart-34 l e = let p = eqb-true l 3 e in ne_eqb l 4 (λ q. omega arith)
+apart_34 : (l : ℕ) → eqb l 3 ≡ true → eqb l 4 ≡ false
+apart_34 l e = let p = eqb-true l 3 e in ne_eqb l 4 (λ q. omega arith)
 
-apart-56 : (l : ℕ) → eqb l 5 ≡ true → eqb l 6 ≡ false
-apart-56 l e = let p = eqb-true l 5 e in ne_eqb l 6 (λ q. omega arith)
+apart_56 : (l : ℕ) → eqb l 5 ≡ true → eqb l 6 ≡ false
+apart_56 l e = let p = eqb-true l 5 e in ne_eqb l 6 (λ q. omega arith)
 
-pub owned-exactly : OwnedExactly
-owned-exactly m lawful =
-    (covers m 3 4 apart-34 (λ k l e. (lawful.rows k l).event-above e), covers m 5 6 apart-56 (λ k l e. (lawful.rows k l).link-above e))
+pub owned_exactly_lem : OwnedExactly
+owned_exactly_lem m lawful =
+    (covers m 3 4 apart_34 (λ k l e. (lawful.rows k l).event_above e), covers m 5 6 apart_56 (λ k l e. (lawful.rows k l).link_above e))

@@ -32,8 +32,8 @@ rows_append m m' u so st =
     rows_mapped m' ∙ ap (λ k. map (row_fact m') (range_with_len 0 k)) st.count ∙ map-range_with_len_more (row_fact m') 0 r r (omega arith) ∙ ap (λ l. l ++ row_fact m' r ∷ []) (e ∙ sym (rows_mapped m))
 
 -- another row in place
-pub rows-replace : (m m' : List ℕ) (j u : ℕ) → Sound m → Step m m' j (rows_in m) u → j < rows_in m → row_facts m' ≡ set (row_facts m) j (row_fact m' j)
-rows-replace m m' j u so st h =
+pub rows_replace : (m m' : List ℕ) (j u : ℕ) → Sound m → Step m m' j (rows_in m) u → j < rows_in m → row_facts m' ≡ set (row_facts m) j (row_fact m' j)
+rows_replace m m' j u so st h =
     let n : ℕ = rows_in m in
     let xs = map (row_fact m) (range_with_len 0 n) in
     let e : map (row_fact m') (range_with_len 0 n) ≡ set xs j (row_fact m' j) =

@@ -7,26 +7,26 @@ use Rattle.blocks.specs.Faults.{list_in}
 use Rattle.blocks.specs.Faults.{counted, above, key_in}
 use Rattle.blocks.specs.Facts.{RowFact, fact_at, row_fact}
 use Rattle.blocks.specs.Lawful.{TextLawful, ValueLawful, RowLawful}
-use Rattle.block_laws.proofs.Kept.{Kept, byte-kept, u16-kept, u32-kept, i64-kept}
+use Rattle.block_laws.proofs.Kept.{Kept, byte_kept, u16_kept, u32_kept, i64_kept}
 
 -- where the place and length of a header text stand, and how long it may be
 abbrev pub Head : ℕ → Type 0
 Head h = (80 ≤ h) × ((h ≤ 112) × (h % 8 ≡ 0))
 
-pub head-80 : Head 80
-head-80 = (omega arith, (omega arith, omega arith))
+pub head_80 : Head 80
+head_80 = (omega arith, (omega arith, omega arith))
 
-pub head-88 : Head 88
-head-88 = (omega arith, (omega arith, omega arith))
+pub head_88 : Head 88
+head_88 = (omega arith, (omega arith, omega arith))
 
-pub head-96 : Head 96
-head-96 = (omega arith, (omega arith, omega arith))
+pub head_96 : Head 96
+head_96 = (omega arith, (omega arith, omega arith))
 
-pub head-104 : Head 104
-head-104 = (omega arith, (omega arith, omega arith))
+pub head_104 : Head 104
+head_104 = (omega arith, (omega arith, omega arith))
 
-pub head-112 : Head 112
-head-112 = (omega arith, (omega arith, omega arith))
+pub head_112 : Head 112
+head_112 = (omega arith, (omega arith, omega arith))
 
 abbrev pub longest : ℕ → ℕ
 longest h = cond (eqb h 88) 512 (cond (eqb h 112) 1024 255)
@@ -37,11 +37,11 @@ pub record Sound (m : List ℕ) : Type 0 where
   pub small : length m ≤ 65536
   pub version : version_in m ≡ 1
   pub first_kind : 1 ≤ kind_in m
-  pub last-kind : kind_in m ≤ 5
+  pub last_kind : kind_in m ≤ 5
   pub status : status_in m ≤ 2
-  pub zero-77 : get_or m 77 0 ≡ 0
-  pub zero-78 : get_or m 78 0 ≡ 0
-  pub zero-79 : get_or m 79 0 ≡ 0
+  pub zero_77 : get_or m 77 0 ≡ 0
+  pub zero_78 : get_or m 78 0 ≡ 0
+  pub zero_79 : get_or m 79 0 ≡ 0
   pub capacity : capacity_in m ≤ 1024
   pub rows : rows_in m ≤ capacity_in m
   pub offset : offset_in m ≡ row_place (capacity_in m)
@@ -74,13 +74,13 @@ value-inside m i l r w =
 
 module _ (m m' : List ℕ) (j n u : ℕ) (so : Sound m) (st : Step m m' j n u) where
   pub offset_step : offset_in m' ≡ offset_in m
-  offset_step = u32-kept m m' 4 11 st.fixed 4 (omega arith) (omega arith)
+  offset_step = u32_kept m m' 4 11 st.fixed 4 (omega arith) (omega arith)
 
-  pub cap-step : capacity_in m' ≡ capacity_in m
-  cap-step = u16-kept m m' 4 11 st.fixed 8 (omega arith) (omega arith)
+  pub cap_step : capacity_in m' ≡ capacity_in m
+  cap_step = u16_kept m m' 4 11 st.fixed 8 (omega arith) (omega arith)
 
   pub kind-step : kind_in m' ≡ kind_in m
-  kind-step = byte-kept m m' 4 11 st.fixed 10 (omega arith) (omega arith)
+  kind-step = byte_kept m m' 4 11 st.fixed 10 (omega arith) (omega arith)
 
   -- a text that stood
   pub text-step : (p n : ℕ) → p + n ≤ used_in m → text_in m' p n ≡ text_in m p n
@@ -96,13 +96,13 @@ module _ (m m' : List ℕ) (j n u : ℕ) (so : Sound m) (st : Step m m' j n u) w
   raw-step i h ne =
       let k = st.others i h ne in
       let at : ℕ = row_place i in
-      let a = byte-kept m m' _ _ k at (omega arith) (omega arith) in
-      let b = byte-kept m m' _ _ k (at + 1) (omega arith) (omega arith) in
-      let c = u16-kept m m' _ _ k (at + 2) (omega arith) (omega arith) in
-      let d = u32-kept m m' _ _ k (at + 4) (omega arith) (omega arith) in
-      let e = u32-kept m m' _ _ k (at + 8) (omega arith) (omega arith) in
-      let f = u32-kept m m' _ _ k (at + 12) (omega arith) (omega arith) in
-      let g = i64-kept m m' _ _ k (at + 16) (omega arith) (omega arith) in
+      let a = byte_kept m m' _ _ k at (omega arith) (omega arith) in
+      let b = byte_kept m m' _ _ k (at + 1) (omega arith) (omega arith) in
+      let c = u16_kept m m' _ _ k (at + 2) (omega arith) (omega arith) in
+      let d = u32_kept m m' _ _ k (at + 4) (omega arith) (omega arith) in
+      let e = u32_kept m m' _ _ k (at + 8) (omega arith) (omega arith) in
+      let f = u32_kept m m' _ _ k (at + 12) (omega arith) (omega arith) in
+      let g = i64_kept m m' _ _ k (at + 16) (omega arith) (omega arith) in
       λ x. record { list = a x; kind = b x; key_length = c x; key_place = d x; value_length = e x; value_place = f x; time = g x }
 
   fact-step : (r : Row) → r.key_place + r.key_length ≤ used_in m → r.value_place + r.value_length ≤ used_in m → fact_at m' r ≡ fact_at m r
@@ -149,10 +149,10 @@ module _ (m m' : List ℕ) (j n u : ℕ) (so : Sound m) (st : Step m m' j n u) w
         let same_key = text-step r.key_place r.key_length w.key.inside in
         let moved : RowLawful m' i l r = record {
           list = w.list;
-          event-above = λ e. let x = w.event-above e in let lt = x.1 in (x.0, x.1, list-step x.0 (omega arith) ∙ x.2);
-          link-above = λ e. let x = w.link-above e in let lt = x.1 in (x.0, x.1, list-step x.0 (omega arith) ∙ x.2);
+          event_above = λ e. let x = w.event_above e in let lt = x.1 in (x.0, x.1, list-step x.0 (omega arith) ∙ x.2);
+          link_above = λ e. let x = w.link_above e in let lt = x.1 in (x.0, x.1, list-step x.0 (omega arith) ∙ x.2);
           few = omega (arith, above_step l i (omega arith), w.few);
-          least-key = w.least-key;
+          long_enough = w.long_enough;
           key = text-lawful-step _ _ _ w.key;
           event = w.event;
           link = λ e. let x = w.link e in record { kind = x.kind; time = x.time; length = x.length; inside = omega (arith, st.grows, st.used, x.inside) };
@@ -167,16 +167,16 @@ module _ (m m' : List ℕ) (j n u : ℕ) (so : Sound m) (st : Step m m' j n u) w
         record {
           bytes = b;
           small = omega (arith, st.size, so.small);
-          version = u16-kept m m' 0 2 st.version 0 (omega arith) (omega arith) ∙ so.version;
+          version = u16_kept m m' 0 2 st.version 0 (omega arith) (omega arith) ∙ so.version;
           first_kind = omega (arith, kind-step, so.first_kind);
-          last-kind = omega (arith, kind-step, so.last-kind);
+          last_kind = omega (arith, kind-step, so.last_kind);
           status = s;
-          zero-77 = byte-kept m m' 77 80 st.zeros 77 (omega arith) (omega arith) ∙ so.zero-77;
-          zero-78 = byte-kept m m' 77 80 st.zeros 78 (omega arith) (omega arith) ∙ so.zero-78;
-          zero-79 = byte-kept m m' 77 80 st.zeros 79 (omega arith) (omega arith) ∙ so.zero-79;
-          capacity = omega (arith, cap-step, so.capacity);
-          rows = omega (arith, st.count, st.most, cap-step);
-          offset = offset_step ∙ so.offset ∙ ap row_place (sym cap-step);
+          zero_77 = byte_kept m m' 77 80 st.zeros 77 (omega arith) (omega arith) ∙ so.zero_77;
+          zero_78 = byte_kept m m' 77 80 st.zeros 78 (omega arith) (omega arith) ∙ so.zero_78;
+          zero_79 = byte_kept m m' 77 80 st.zeros 79 (omega arith) (omega arith) ∙ so.zero_79;
+          capacity = omega (arith, cap_step, so.capacity);
+          rows = omega (arith, st.count, st.most, cap_step);
+          offset = offset_step ∙ so.offset ∙ ap row_place (sym cap_step);
           used = omega (arith, offset_step, st.used, st.fit, st.size);
           heads = hs;
           each = λ i h.

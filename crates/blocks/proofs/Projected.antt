@@ -10,10 +10,10 @@ use Rattle.blocks.specs.Facts.{RowFact, row_fact, facts_from, row_facts}
 use Rattle.blocks.specs.Places.{is_of, places_of, rows_from, attributes_of}
 use Rattle.blocks.specs.Projections.{in_list, of_list, up_to, Owned, owning, nth_head}
 
-pub nth-map : {X Y : Type 0} (f : X → Y) (xs : List X) (n : ℕ) → slice_get (map f xs) n ≡ option_map f (slice_get xs n)
-nth-map f [] n = refl
-nth-map f (x ∷ xs) zero = refl
-nth-map f (x ∷ xs) (suc n) = nth-map f xs n
+pub nth_map : {X Y : Type 0} (f : X → Y) (xs : List X) (n : ℕ) → slice_get (map f xs) n ≡ option_map f (slice_get xs n)
+nth_map f [] n = refl
+nth_map f (x ∷ xs) zero = refl
+nth_map f (x ∷ xs) (suc n) = nth_map f xs n
 
 map-cond : {X Y : Type 0} (f : X → Y) (b : Bool) (x : X) (xs : List X) (ys : List Y) → ys ≡ map f xs → cond b (f x ∷ ys) ys ≡ map f (cond b (x ∷ xs) xs)
 map-cond f true x xs ys e = ap (λ zs. f x ∷ zs) e
@@ -28,8 +28,8 @@ list-places : (m : List ℕ) (l i n : ℕ) → of_list l (rows_from m i n) ≡ m
 unfolding of_list rows_from places_of
 list-places m l i n = kept_map (row_fact m) (in_list l) (range_with_len i n)
 
-pub nth-list : (m : List ℕ) (l i n k : ℕ) → slice_get (of_list l (rows_from m i n)) k ≡ option_map (row_fact m) (slice_get (places_of m l i n) k)
-nth-list m l i n k = ap (λ xs. slice_get xs k) (list-places m l i n) ∙ nth-map (row_fact m) (places_of m l i n) k
+pub nth_list : (m : List ℕ) (l i n k : ℕ) → slice_get (of_list l (rows_from m i n)) k ≡ option_map (row_fact m) (slice_get (places_of m l i n) k)
+nth_list m l i n k = ap (λ xs. slice_get xs k) (list-places m l i n) ∙ nth_map (row_fact m) (places_of m l i n) k
 
 pub length-list : (m : List ℕ) (l i n : ℕ) → length (places_of m l i n) ≡ length (of_list l (rows_from m i n))
 length-list m l i n = sym (ap length (list-places m l i n) ∙ length-map (places_of m l i n) (row_fact m))
@@ -68,8 +68,8 @@ unfolding owning of_list
 heads h a [] = refl
 heads h a (r ∷ rs) = heads-cond (in_list h r) r _ (owning h a rs) _ (heads h a rs)
 
-pub nth-head : (h a : ℕ) (rows : List RowFact) (n : ℕ) → slice_get (of_list h rows) n ≡ nth_head (owning h a rows) n
-nth-head h a rows n = ap (λ xs. slice_get xs n) (sym (heads h a rows)) ∙ nth-map (λ (o : Owned). o.head) (owning h a rows) n
+pub nth_head_lem : (h a : ℕ) (rows : List RowFact) (n : ℕ) → slice_get (of_list h rows) n ≡ nth_head (owning h a rows) n
+nth_head_lem h a rows n = ap (λ xs. slice_get xs n) (sym (heads h a rows)) ∙ nth_map (λ (o : Owned). o.head) (owning h a rows) n
 
 -- a place lies behind where the search began
 low-cond : (b : Bool) (i d k : ℕ) (xs : List ℕ) → ((k : ℕ) → i + 1 ≤ unwrap_or (slice_get xs k) d) → i ≤ unwrap_or (slice_get (cond b (i ∷ xs) xs) k) d
@@ -88,12 +88,12 @@ unfolding rows_from
 up_to-cond true m i e xs us p h = let z : i - i ≡ 0 = omega arith in rw z
 up_to-cond false m i e xs us p h = let s : unwrap_or (slice_get xs 0) e - i ≡ suc (unwrap_or (slice_get xs 0) e - (i + 1)) = omega arith in rw s (ap (λ rs. row_fact m i ∷ rs) p)
 
-pub up_to-run : (m : List ℕ) (h n i e : ℕ) → i + n ≡ e → up_to h (rows_from m i n) ≡ rows_from m i (unwrap_or (slice_get (places_of m h i n) 0) e - i)
+pub up_to_run : (m : List ℕ) (h n i e : ℕ) → i + n ≡ e → up_to h (rows_from m i n) ≡ rows_from m i (unwrap_or (slice_get (places_of m h i n) 0) e - i)
 unfolding up_to rows_from places_of
-up_to-run m h zero i e p = let z : e - i ≡ 0 = omega arith in rw z
-up_to-run m h (suc n) i e p =
+up_to_run m h zero i e p = let z : e - i ≡ 0 = omega arith in rw z
+up_to_run m h (suc n) i e p =
     up_to-cond (is_of m h i) m i e (places_of m h (i + 1) n) _
-    (up_to-run m h n (i + 1) e (omega arith))
+    (up_to_run m h n (i + 1) e (omega arith))
     (places-low m h n (i + 1) e 0 (omega arith))
 
 -- the n-th owner, by its place
@@ -121,7 +121,7 @@ owning-whole m h a k = ap (λ rs. slice_get (owning h a rs) k) (sym (whole m)) �
 pub under_none : (m : List ℕ) (h a k : ℕ) → None ≡ slice_get (places_of m h 0 (rows_in m - 0)) k → None ≡ option_map attributes_of (slice_get (owning h a (row_facts m)) k)
 under_none m h a k e = sym (ap (option_map attributes_of) (owning-whole m h a k ∙ ap (option_map (owned_at m h a (rows_in m))) (sym e)))
 
-pub under-run : (m : List ℕ) (h a k j t : ℕ) → j < rows_in m → Some j ≡ slice_get (places_of m h 0 (rows_in m - 0)) k → t ≡ unwrap_or (slice_get (places_of m h (j + 1) (rows_in m - (j + 1))) 0) (rows_in m) → Some (of_list a (rows_from m (j + 1) (t - (j + 1)))) ≡ option_map attributes_of (slice_get (owning h a (row_facts m)) k)
-under-run m h a k j t l e f =
-    let u = up_to-run m h (rows_in m - (j + 1)) (j + 1) (rows_in m) (omega arith) ∙ ap (λ x. rows_from m (j + 1) (x - (j + 1))) (sym f) in
+pub under_run : (m : List ℕ) (h a k j t : ℕ) → j < rows_in m → Some j ≡ slice_get (places_of m h 0 (rows_in m - 0)) k → t ≡ unwrap_or (slice_get (places_of m h (j + 1) (rows_in m - (j + 1))) 0) (rows_in m) → Some (of_list a (rows_from m (j + 1) (t - (j + 1)))) ≡ option_map attributes_of (slice_get (owning h a (row_facts m)) k)
+under_run m h a k j t l e f =
+    let u = up_to_run m h (rows_in m - (j + 1)) (j + 1) (rows_in m) (omega arith) ∙ ap (λ x. rows_from m (j + 1) (x - (j + 1))) (sym f) in
     sym (ap (option_map attributes_of) (owning-whole m h a k ∙ ap (option_map (owned_at m h a (rows_in m))) (sym e)) ∙ ap (λ rs. Some (of_list a rs)) u)

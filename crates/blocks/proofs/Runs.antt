@@ -18,8 +18,8 @@ said-next m k (suc j) h = let e : suc j - 1 ≡ j = omega arith in rw e
 pub said-hit : (m k : List ℕ) (j : ℕ) → 0 < j → resource_key m k (j - 1) ≡ true → said m k j ≡ true
 said-hit m k j h e = said-next m k j h ∙ ap (λ t. t || said m k (j - 1)) e
 
-pub said-miss : (m k : List ℕ) (j : ℕ) → 0 < j → resource_key m k (j - 1) ≡ false → said m k j ≡ said m k (j - 1)
-said-miss m k j h e = said-next m k j h ∙ ap (λ t. t || said m k (j - 1)) e
+pub said_miss : (m k : List ℕ) (j : ℕ) → 0 < j → resource_key m k (j - 1) ≡ false → said m k j ≡ said m k (j - 1)
+said_miss m k j h e = said-next m k j h ∙ ap (λ t. t || said m k (j - 1)) e
 
 pub said-none : (m k : List ℕ) → said m k 0 ≡ false
 unfolding said
@@ -37,23 +37,23 @@ module _ {E : Type 0} (f : ℕ → Option E) (i n : ℕ) where
   pub first_more : i < n → f i ≡ None → first_from f i (n - i) ≡ first_from f (i + 1) (n - (i + 1))
   first_more h e = first_step h ∙ ap (λ o. or_else o (first_from f (i + 1) (n - (i + 1)))) e
 
-  pub first-hit : i < n → is_some (f i) ≡ true → first_from f i (n - i) ≡ f i
-  first-hit h e = first_step h ∙ hit (f i) _ e
+  pub first_hit : i < n → is_some (f i) ≡ true → first_from f i (n - i) ≡ f i
+  first_hit h e = first_step h ∙ hit (f i) _ e
 
-  pub first-none : n ≤ i → first_from f i (n - i) ≡ None
+  pub first_none : n ≤ i → first_from f i (n - i) ≡ None
   unfolding first_from
-  first-none h = let e : n - i ≡ 0 = omega arith in rw e
+  first_none h = let e : n - i ≡ 0 = omega arith in rw e
 
 -- for `search (rules, firsts)`
-pub ruleset firsts = (first_more, first-hit, first-none)
+pub ruleset firsts = (first_more, first_hit, first_none)
 
 -- the counts of one more row
 pub aboves-next : (m : List ℕ) (i : ℕ) → aboves m (i + 1) ≡ counted_all (aboves m i) (list_in m i)
 unfolding above
 aboves-next m i = let e : i + 1 ≡ suc i = omega arith in rw e
 
-pub counts-next : (m n c : List ℕ) (i k : ℕ) → n ≡ counted_all c k → c ≡ aboves m i → k ≡ list_in m i → n ≡ aboves m (i + 1)
-counts-next m n c i k e f g = e ∙ ap (λ x. counted_all x k) f ∙ ap (counted_all (aboves m i)) g ∙ sym (aboves-next m i)
+pub counts_next : (m n c : List ℕ) (i k : ℕ) → n ≡ counted_all c k → c ≡ aboves m i → k ≡ list_in m i → n ≡ aboves m (i + 1)
+counts_next m n c i k e f g = e ∙ ap (λ x. counted_all x k) f ∙ ap (counted_all (aboves m i)) g ∙ sym (aboves-next m i)
 
 pub aboves-none : (m : List ℕ) → aboves m 0 ≡ 0 ∷ 0 ∷ 0 ∷ 0 ∷ 0 ∷ 0 ∷ 0 ∷ []
 unfolding above
@@ -74,23 +74,23 @@ list_same m n i Link e = rw e
 list_same m n i LinkAttribute e = rw e
 
 -- a row whose list passes has the faults of its content
-pub row-passes : (m : List ℕ) (i k l : ℕ) (r s : Row) → k ≡ l → r ≡ s → list_fault m i k ≡ false → row_fault m i l s ≡ content_fault m i k r
-row-passes m i k l r s e f h = rw (← e, ← f, h)
+pub row_passes : (m : List ℕ) (i k l : ℕ) (r s : Row) → k ≡ l → r ≡ s → list_fault m i k ≡ false → row_fault m i l s ≡ content_fault m i k r
+row_passes m i k l r s e f h = rw (← e, ← f, h)
 
 -- counts stay small
-above-le : (m : List ℕ) (r i : ℕ) → above m r i ≤ i
+above_le : (m : List ℕ) (r i : ℕ) → above m r i ≤ i
 unfolding above
-above-le m r zero = omega arith
-above-le m r (suc i) = let h = above-le m r i in grind (arith, nat_tests)
+above_le m r zero = omega arith
+above_le m r (suc i) = let h = above_le m r i in grind (arith, nat_tests)
 
 few : (m : List ℕ) (i r : ℕ) → i < 65536 → get_or (aboves m i) r 0 < 65536
-few m i zero h = let a = above-le m 0 i in omega arith
-few m i (suc zero) h = let a = above-le m 1 i in omega arith
-few m i (suc (suc zero)) h = let a = above-le m 2 i in omega arith
-few m i (suc (suc (suc zero))) h = let a = above-le m 3 i in omega arith
-few m i (suc (suc (suc (suc zero)))) h = let a = above-le m 4 i in omega arith
-few m i (suc (suc (suc (suc (suc zero))))) h = let a = above-le m 5 i in omega arith
-few m i (suc (suc (suc (suc (suc (suc zero)))))) h = let a = above-le m 6 i in omega arith
+few m i zero h = let a = above_le m 0 i in omega arith
+few m i (suc zero) h = let a = above_le m 1 i in omega arith
+few m i (suc (suc zero)) h = let a = above_le m 2 i in omega arith
+few m i (suc (suc (suc zero))) h = let a = above_le m 3 i in omega arith
+few m i (suc (suc (suc (suc zero)))) h = let a = above_le m 4 i in omega arith
+few m i (suc (suc (suc (suc (suc zero))))) h = let a = above_le m 5 i in omega arith
+few m i (suc (suc (suc (suc (suc (suc zero)))))) h = let a = above_le m 6 i in omega arith
 few m i (suc (suc (suc (suc (suc (suc (suc r))))))) h = omega arith
 
 pub few-rows : (m n : List ℕ) (i : ℕ) → n ≡ aboves m i → i < 65536 → FewRows n

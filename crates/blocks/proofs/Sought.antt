@@ -15,8 +15,8 @@ module _ (m : List ℕ) (l i n : ℕ) where
   pub places-hit : i < n → is_of m l i ≡ true → places_of m l i (n - i) ≡ i ∷ places_of m l (i + 1) (n - (i + 1))
   places-hit h e = places-step h ∙ cond-true _ _ _ e
 
-  pub places-miss : i < n → is_of m l i ≡ false → places_of m l i (n - i) ≡ places_of m l (i + 1) (n - (i + 1))
-  places-miss h e = places-step h ∙ cond-false _ _ _ e
+  pub places_miss : i < n → is_of m l i ≡ false → places_of m l i (n - i) ≡ places_of m l (i + 1) (n - (i + 1))
+  places_miss h e = places-step h ∙ cond-false _ _ _ e
 
   pub places-none : n ≤ i → places_of m l i (n - i) ≡ []
   unfolding places_of
@@ -35,18 +35,18 @@ count-few m l zero i = omega arith
 count-few m l (suc n) i = let h = count-few m l n (i + 1) in rw (length-cond (is_of m l i) i (places_of m l (i + 1) n)) (grind (arith, nat_tests))
 
 -- the n-th
-pub nth-hit : (m : List ℕ) (l i n : ℕ) → i < n → is_of m l i ≡ true → slice_get (places_of m l i (n - i)) 0 ≡ Some i
-nth-hit m l i n h e = ap (λ xs. slice_get xs 0) (places-hit m l i n h e)
+pub nth_hit : (m : List ℕ) (l i n : ℕ) → i < n → is_of m l i ≡ true → slice_get (places_of m l i (n - i)) 0 ≡ Some i
+nth_hit m l i n h e = ap (λ xs. slice_get xs 0) (places-hit m l i n h e)
 
-pub nth-later : (m : List ℕ) (l i n k : ℕ) → i < n → 0 < k → is_of m l i ≡ true → slice_get (places_of m l i (n - i)) k ≡ slice_get (places_of m l (i + 1) (n - (i + 1))) (k - 1)
-nth-later m l i n zero h p e = absurd (omega arith)
-nth-later m l i n (suc k) h p e = let s : suc k - 1 ≡ k = omega arith in rw s (ap (λ xs. slice_get xs (suc k)) (places-hit m l i n h e))
+pub nth_later : (m : List ℕ) (l i n k : ℕ) → i < n → 0 < k → is_of m l i ≡ true → slice_get (places_of m l i (n - i)) k ≡ slice_get (places_of m l (i + 1) (n - (i + 1))) (k - 1)
+nth_later m l i n zero h p e = absurd (omega arith)
+nth_later m l i n (suc k) h p e = let s : suc k - 1 ≡ k = omega arith in rw s (ap (λ xs. slice_get xs (suc k)) (places-hit m l i n h e))
 
-pub nth-miss : (m : List ℕ) (l i n k : ℕ) → i < n → is_of m l i ≡ false → slice_get (places_of m l i (n - i)) k ≡ slice_get (places_of m l (i + 1) (n - (i + 1))) k
-nth-miss m l i n k h e = ap (λ xs. slice_get xs k) (places-miss m l i n h e)
+pub nth_miss : (m : List ℕ) (l i n k : ℕ) → i < n → is_of m l i ≡ false → slice_get (places_of m l i (n - i)) k ≡ slice_get (places_of m l (i + 1) (n - (i + 1))) k
+nth_miss m l i n k h e = ap (λ xs. slice_get xs k) (places_miss m l i n h e)
 
-pub nth-none : (m : List ℕ) (l i n k : ℕ) → n ≤ i → slice_get (places_of m l i (n - i)) k ≡ None
-nth-none m l i n k h = ap (λ xs. slice_get xs k) (places-none m l i n h)
+pub nth_none : (m : List ℕ) (l i n k : ℕ) → n ≤ i → slice_get (places_of m l i (n - i)) k ≡ None
+nth_none m l i n k h = ap (λ xs. slice_get xs k) (places-none m l i n h)
 
 -- for `search (rules, seeks)`
-pub ruleset seeks = (nth-hit, nth-later, nth-miss, nth-none)
+pub ruleset seeks = (nth_hit, nth_later, nth_miss, nth_none)

@@ -13,12 +13,12 @@ pub record FrameLawful (m : List ℕ) : Type 0 where
   pub most : length m ≤ 65536
   pub version : version_in m ≡ 1
   pub first_kind : 1 ≤ kind_in m
-  pub last-kind : kind_in m ≤ 5
+  pub last_kind : kind_in m ≤ 5
   pub status : status_in m ≤ 2
   pub ended : state_in m ≡ 1
-  pub zero-77 : slice_index_or m 77 0 ≡ 0
-  pub zero-78 : slice_index_or m 78 0 ≡ 0
-  pub zero-79 : slice_index_or m 79 0 ≡ 0
+  pub zero_77 : slice_index_or m 77 0 ≡ 0
+  pub zero_78 : slice_index_or m 78 0 ≡ 0
+  pub zero_79 : slice_index_or m 79 0 ≡ 0
   pub capacity : capacity_in m ≤ 1024
   pub rows : rows_in m ≤ capacity_in m
   pub offset : offset_in m ≡ 120 + 24 * capacity_in m
@@ -70,10 +70,10 @@ pub record AttributeLawful (m : List ℕ) (r : Row) : Type 0 where
 -- under one owner; a resource has each key once
 pub record RowLawful (m : List ℕ) (i l : ℕ) (r : Row) : Type 0 where
   pub list : l ≤ 6
-  pub event-above : l ≡ 4 → (j : ℕ) × (j < i) × (list_in m j ≡ 3)
-  pub link-above : l ≡ 6 → (j : ℕ) × (j < i) × (list_in m j ≡ 5)
+  pub event_above : l ≡ 4 → (j : ℕ) × (j < i) × (list_in m j ≡ 3)
+  pub link_above : l ≡ 6 → (j : ℕ) × (j < i) × (list_in m j ≡ 5)
   pub few : above m l i < 128
-  pub least-key : least_key l ≤ r.key_length
+  pub long_enough : least_key l ≤ r.key_length
   pub key : TextLawful m r.key_place r.key_length (longest_key l)
   pub event : l ≡ 3 → EventLawful r
   pub link : l ≡ 5 → LinkLawful m r
@@ -83,9 +83,9 @@ pub record RowLawful (m : List ℕ) (i l : ℕ) (r : Row) : Type 0 where
 pub record Lawful (m : List ℕ) : Type 0 where
   pub frame : FrameLawful m
   pub name : TextLawful m (place_in m 80) (length_in m 80) 255
-  pub trace-state : TextLawful m (place_in m 88) (length_in m 88) 512
-  pub scope-name : TextLawful m (place_in m 96) (length_in m 96) 255
-  pub scope-version : TextLawful m (place_in m 104) (length_in m 104) 255
+  pub trace_state : TextLawful m (place_in m 88) (length_in m 88) 512
+  pub scope_name : TextLawful m (place_in m 96) (length_in m 96) 255
+  pub scope_version : TextLawful m (place_in m 104) (length_in m 104) 255
   pub description : TextLawful m (place_in m 112) (length_in m 112) 1024
   pub rows : (i : ℕ) → i < rows_in m → RowLawful m i (list_in m i) (row_at m (row_place i))
 

@@ -31,10 +31,10 @@ passed None u before after n out f g = g
 passed (Some t) u before after n out f g = let s = f.size in let z : ◌≡◌ {A = ℕ} 0 1 = cc in absurd (omega arith)
 
 -- a text that is offered as it is, where another is not empty
-pub offered-if : (s t u : List ℕ) (n r : ℕ) (before out : List ℕ) → n ≡ length s → (n ≡ 0 → ⊥) → u ≡ t → false ≡ eqb (length u) 0 → Filled 8200 u r out → Offered 8200 (only_if s (if_given t t)) (Some r) before out
-offered-if [] t u n r before out en hn e h f = absurd (hn en)
-offered-if (x ∷ s) [] u n r before out en hn e h f = let z : length u ≡ 0 = ap length e in absurd (both_ways (eqb (length u) 0) (sym h) (eq-eqb (length u) 0 z))
-offered-if (x ∷ s) (y ∷ t) u n r before out en hn e h f = record { size = ap Some (f.len ∙ ap length e); text = f.text ∙ ap (padded 8200) e }
+pub offered_if : (s t u : List ℕ) (n r : ℕ) (before out : List ℕ) → n ≡ length s → (n ≡ 0 → ⊥) → u ≡ t → false ≡ eqb (length u) 0 → Filled 8200 u r out → Offered 8200 (only_if s (if_given t t)) (Some r) before out
+offered_if [] t u n r before out en hn e h f = absurd (hn en)
+offered_if (x ∷ s) [] u n r before out en hn e h f = let z : length u ≡ 0 = ap length e in absurd (both_ways (eqb (length u) 0) (sym h) (eq-eqb (length u) 0 z))
+offered_if (x ∷ s) (y ∷ t) u n r before out en hn e h f = record { size = ap Some (f.len ∙ ap length e); text = f.text ∙ ap (padded 8200) e }
 
 -- a text that was read, and is offered as it is
 pub offered-text : (t buf u : List ℕ) (n r : ℕ) (before out : List ℕ) → n ≡ length t → buf ≡ padded 4096 t → (n ≡ 0 → ⊥) → u ≡ portion buf 0 n → Filled 8200 u r out → Offered 8200 (if_given t t) (Some r) before out

@@ -15,50 +15,50 @@ use Rattle.drafts.specs.declared.refusal.StartFault.TheVariants.{Kind, Memory, T
 use Rattle.drafts.specs.Calls.{Opening, SizedOpening}
 use Rattle.drafts.specs.Writes.{id_bytes, opening_texts, head_bytes, started}
 use Rattle.drafts.specs.Memory.{text_refusal, start_texts, start_memory, start_fault}
-use Rattle.block_laws.proofs.Kept.{Kept, byte-kept, byte-place, u16-kept, u16-place, u32-kept, u32-place, i64-kept, i64-place, id-kept, id-place, portion-place, behind, portion-first, portion-whole}
+use Rattle.block_laws.proofs.Kept.{Kept, byte_kept, byte_place, u16_kept, u16_place, u32_kept, u32_place, i64_kept, i64_place, id_kept, id_place, portion-place, behind, portion_first, portion-whole}
 use Rattle.block_laws.proofs.Sound.{Sound, Head, longest}
-use Rattle.draft_law.proofs.Octets.{low, bytes_of, bytes-append, bytes-written, zeros, bytes-zeros}
-use Rattle.draft_law.proofs.Accepted.{or-none, else-none, mapped-none, text-tells}
+use Rattle.draft_law.proofs.Octets.{low, bytes_of, bytes_append, bytes-written, zeros, bytes-zeros}
+use Rattle.draft_law.proofs.Accepted.{or_none, else_none, mapped-none, text_tells}
 use Rattle.blocks.proofs.Projected.{rows_mapped}
 
 -- what a start that is not refused has been found to meet
 pub record StartTells (n : ℕ) (o : Opening) : Type 0 where
   pub first_kind : 1 ≤ o.kind
-  pub last-kind : o.kind ≤ 5
+  pub last_kind : o.kind ≤ 5
   pub least : 120 ≤ n
   pub most : n ≤ 65536
   pub capacity : o.capacity ≤ 1024
   pub rows : row_place o.capacity ≤ n
   pub name : (length o.name ≤ 255) × IsUtf8 o.name
-  pub trace-state : (length o.trace_state ≤ 512) × IsUtf8 o.trace_state
-  pub scope-name : (length o.scope_name ≤ 255) × IsUtf8 o.scope_name
-  pub scope-version : (length o.scope_version ≤ 255) × IsUtf8 o.scope_version
+  pub trace_state : (length o.trace_state ≤ 512) × IsUtf8 o.trace_state
+  pub scope_name : (length o.scope_name ≤ 255) × IsUtf8 o.scope_name
+  pub scope_version : (length o.scope_version ≤ 255) × IsUtf8 o.scope_version
   pub texts : row_place o.capacity + length (opening_texts o) ≤ n
 
-pub start-tells : (n : ℕ) (o : Opening) → start_fault n o ≡ None → StartTells n o
-start-tells n o h =
-    let a = else-none (leb 1 o.kind && leb o.kind 5) _ Kind h in
-    let b = else-none (start_memory n o.capacity) _ Memory a.1 in
-    let c = or-none (option_map StartText (start_texts o)) _ b.1 in
-    let d = else-none (leb (row_place o.capacity + length (opening_texts o)) n) None StartNoRoom c.1 in
+pub start_tells : (n : ℕ) (o : Opening) → start_fault n o ≡ None → StartTells n o
+start_tells n o h =
+    let a = else_none (leb 1 o.kind && leb o.kind 5) _ Kind h in
+    let b = else_none (start_memory n o.capacity) _ Memory a.1 in
+    let c = or_none (option_map StartText (start_texts o)) _ b.1 in
+    let d = else_none (leb (row_place o.capacity + length (opening_texts o)) n) None StartNoRoom c.1 in
     let k = and_parts (leb 1 o.kind) _ a.0 in
     let m1 = and_parts (leb 120 n) _ b.0 in
     let m2 = and_parts (leb n 65536) _ m1.1 in
     let m3 = and_parts (leb o.capacity 1024) _ m2.1 in
-    let t1 = or-none (text_refusal 255 o.name) _ (mapped-none StartText _ c.0) in
-    let t2 = or-none (text_refusal 512 o.trace_state) _ t1.1 in
-    let t3 = or-none (text_refusal 255 o.scope_name) _ t2.1 in
+    let t1 = or_none (text_refusal 255 o.name) _ (mapped-none StartText _ c.0) in
+    let t2 = or_none (text_refusal 512 o.trace_state) _ t1.1 in
+    let t3 = or_none (text_refusal 255 o.scope_name) _ t2.1 in
     record {
       first_kind = leb-true _ _ k.0;
-      last-kind = leb-true _ _ k.1;
+      last_kind = leb-true _ _ k.1;
       least = leb-true _ _ m1.0;
       most = leb-true _ _ m2.0;
       capacity = leb-true _ _ m3.0;
       rows = leb-true _ _ m3.1;
-      name = text-tells 255 o.name t1.0;
-      trace-state = text-tells 512 o.trace_state t2.0;
-      scope-name = text-tells 255 o.scope_name t3.0;
-      scope-version = text-tells 255 o.scope_version t3.1;
+      name = text_tells 255 o.name t1.0;
+      trace_state = text_tells 512 o.trace_state t2.0;
+      scope_name = text_tells 255 o.scope_name t3.0;
+      scope_version = text_tells 255 o.scope_version t3.1;
       texts = leb-true _ _ d.0;
     }
 
@@ -68,12 +68,12 @@ unfolding portion
 portion-skip a r q p k h = same_lists _ _ (search (rules, places)) (λ i d l. grind (arith, places))
 
 -- an id, from its bytes
-be8-id : (v : ℕ) → v < 2 ^ 64 → be8 (id_bytes v) ≡ v
-be8-id v h = let e = le8-bytes8 v h in omega arith
+be8_id : (v : ℕ) → v < 2 ^ 64 → be8 (id_bytes v) ≡ v
+be8_id v h = let e = le8-bytes8 v h in omega arith
 
 -- the five places of header texts
-head-cases : (P : ℕ → Type 0) → P 80 → P 88 → P 96 → P 104 → P 112 → (h : ℕ) → Head h → P h
-head-cases P a b c d e h hd =
+head_cases : (P : ℕ → Type 0) → P 80 → P 88 → P 96 → P 104 → P 112 → (h : ℕ) → Head h → P h
+head_cases P a b c d e h hd =
     let low = hd.0 in let high = hd.1.0 in let eighth = hd.1.1 in
     ⊎_elim (λ (x : h ≡ 80). subst P (sym x) a) (λ (n1 : h ≡ 80 → ⊥).
     ⊎_elim (λ (x : h ≡ 88). subst P (sym x) b) (λ (n2 : h ≡ 88 → ⊥).
@@ -127,69 +127,69 @@ module _ (n : ℕ) (o : Opening) (sz : SizedOpening o) (ok : StartTells n o) whe
   front : Kept h s 0 120
   front = behind h (row_place c) ts 0 120 (omega arith)
 
-  byte-is : (a : ℕ) → a + 1 ≤ 120 → get_or s a 0 ≡ get_or hd a 0
-  byte-is a l = byte-kept h s 0 120 front a (omega arith) l ∙ byte-place (zeros n) 0 hd a a (omega arith) fit (omega (arith, wide))
+  byte_is : (a : ℕ) → a + 1 ≤ 120 → get_or s a 0 ≡ get_or hd a 0
+  byte_is a l = byte_kept h s 0 120 front a (omega arith) l ∙ byte_place (zeros n) 0 hd a a (omega arith) fit (omega (arith, wide))
 
-  u16-is : (a : ℕ) → a + 2 ≤ 120 → u16_in s a ≡ u16_in hd a
-  u16-is a l = u16-kept h s 0 120 front a (omega arith) l ∙ u16-place (zeros n) 0 hd a a (omega arith) fit (omega (arith, wide))
+  u16_is : (a : ℕ) → a + 2 ≤ 120 → u16_in s a ≡ u16_in hd a
+  u16_is a l = u16_kept h s 0 120 front a (omega arith) l ∙ u16_place (zeros n) 0 hd a a (omega arith) fit (omega (arith, wide))
 
-  u32-is : (a : ℕ) → a + 4 ≤ 120 → u32_in s a ≡ u32_in hd a
-  u32-is a l = u32-kept h s 0 120 front a (omega arith) l ∙ u32-place (zeros n) 0 hd a a (omega arith) fit (omega (arith, wide))
+  u32_is : (a : ℕ) → a + 4 ≤ 120 → u32_in s a ≡ u32_in hd a
+  u32_is a l = u32_kept h s 0 120 front a (omega arith) l ∙ u32_place (zeros n) 0 hd a a (omega arith) fit (omega (arith, wide))
 
-  i64-is : (a : ℕ) → a + 8 ≤ 120 → i64_in s a ≡ i64_in hd a
-  i64-is a l = i64-kept h s 0 120 front a (omega arith) l ∙ i64-place (zeros n) 0 hd a a (omega arith) fit (omega (arith, wide))
+  i64_is : (a : ℕ) → a + 8 ≤ 120 → i64_in s a ≡ i64_in hd a
+  i64_is a l = i64_kept h s 0 120 front a (omega arith) l ∙ i64_place (zeros n) 0 hd a a (omega arith) fit (omega (arith, wide))
 
-  id-is : (a : ℕ) → a + 8 ≤ 120 → id_in s a ≡ id_in hd a
-  id-is a l = id-kept h s 0 120 front a (omega arith) l ∙ id-place (zeros n) 0 hd a a (omega arith) fit (omega (arith, wide))
+  id_is : (a : ℕ) → a + 8 ≤ 120 → id_in s a ≡ id_in hd a
+  id_is a l = id_kept h s 0 120 front a (omega arith) l ∙ id_place (zeros n) 0 hd a a (omega arith) fit (omega (arith, wide))
 
   version : version_in s ≡ 1
   unfolding portion
-  version = u16-is 0 (omega arith)
+  version = u16_is 0 (omega arith)
 
   rows : rows_in s ≡ 0
   unfolding portion
-  rows = u16-is 2 (omega arith)
+  rows = u16_is 2 (omega arith)
 
   offset : offset_in s ≡ row_place c
   unfolding portion
-  offset = u32-is 4 (omega arith) ∙ le4-bytes4 (row_place c) (omega (arith, ok.capacity))
+  offset = u32_is 4 (omega arith) ∙ le4-bytes4 (row_place c) (omega (arith, ok.capacity))
 
   capacity : capacity_in s ≡ c
   unfolding portion
-  capacity = u16-is 8 (omega arith) ∙ le2-bytes2 c sz.capacity
+  capacity = u16_is 8 (omega arith) ∙ le2-bytes2 c sz.capacity
 
   kind : kind_in s ≡ o.kind
-  kind = byte-is 10 (omega arith)
+  kind = byte_is 10 (omega arith)
 
   status : status_in s ≡ 0
-  status = byte-is 11 (omega arith)
+  status = byte_is 11 (omega arith)
 
   short : la + (lb + (lc + ld)) ≤ 65536
   short = omega (arith, all, ok.texts, ok.most)
 
   used : used_in s ≡ la + (lb + (lc + ld))
   unfolding portion
-  used = u32-is 12 (omega arith) ∙ le4-bytes4 (la + (lb + (lc + ld))) (omega (arith, short))
+  used = u32_is 12 (omega arith) ∙ le4-bytes4 (la + (lb + (lc + ld))) (omega (arith, short))
 
-  trace-high : id_in s 16 ≡ o.trace_high
+  trace_high : id_in s 16 ≡ o.trace_high
   unfolding portion
-  trace-high = id-is 16 (omega arith) ∙ be8-id o.trace_high sz.trace-high
+  trace_high = id_is 16 (omega arith) ∙ be8_id o.trace_high sz.trace_high
 
-  trace-low : id_in s 24 ≡ o.trace_low
+  trace_low : id_in s 24 ≡ o.trace_low
   unfolding portion
-  trace-low = id-is 24 (omega arith) ∙ be8-id o.trace_low sz.trace-low
+  trace_low = id_is 24 (omega arith) ∙ be8_id o.trace_low sz.trace_low
 
-  span-id : id_in s 32 ≡ o.span_id
+  span_id : id_in s 32 ≡ o.span_id
   unfolding portion
-  span-id = id-is 32 (omega arith) ∙ be8-id o.span_id sz.span-id
+  span_id = id_is 32 (omega arith) ∙ be8_id o.span_id sz.span_id
 
-  parent-id : id_in s 40 ≡ o.parent_id
+  parent_id : id_in s 40 ≡ o.parent_id
   unfolding portion
-  parent-id = id-is 40 (omega arith) ∙ be8-id o.parent_id sz.parent-id
+  parent_id = id_is 40 (omega arith) ∙ be8_id o.parent_id sz.parent_id
 
   start : i64_in s 48 ≡ o.start
   unfolding portion
-  start = i64-is 48 (omega arith) ∙ int8-ints8 o.start sz.start
+  start = i64_is 48 (omega arith) ∙ int8-ints8 o.start sz.start
 
   -- the texts, one after another
   text_at : (p k : ℕ) → p + k ≤ length ts → text_in s p k ≡ portion ts p k
@@ -197,8 +197,8 @@ module _ (n : ℕ) (o : Opening) (sz : SizedOpening o) (ok : StartTells n o) whe
 
   -- a header text whose place and length were written
   module _ (at p k most : ℕ) (t : List ℕ) (is-p : place_in s at ≡ p) (is-k : length_in s at ≡ k) (inside : p + k ≤ length ts) (is : portion ts p k ≡ t) where
-    text-is : header_text s at ≡ t
-    text-is = (λ i. text_in s (is-p i) (is-k i)) ∙ text_at p k inside ∙ is
+    text_is : header_text s at ≡ t
+    text_is = (λ i. text_in s (is-p i) (is-k i)) ∙ text_at p k inside ∙ is
 
     text-lawful : k ≤ most → IsUtf8 t → TextLawful s (place_in s at) (length_in s at) most
     text-lawful m u =
@@ -206,59 +206,59 @@ module _ (n : ℕ) (o : Opening) (sz : SizedOpening o) (ok : StartTells n o) whe
         subst (λ x. TextLawful s x (length_in s at) most) (sym is-p) (subst (λ x. TextLawful s p x most) (sym is-k) it)
 
   place_is : (a v : ℕ) → a + 4 ≤ 120 → u32_in hd a ≡ v → u32_in s a ≡ v
-  place_is a v l e = u32-is a l ∙ e
+  place_is a v l e = u32_is a l ∙ e
 
-  four-80 : u32_in s 80 ≡ 0
+  four_80 : u32_in s 80 ≡ 0
   unfolding portion
-  four-80 = u32-is 80 (omega arith)
+  four_80 = u32_is 80 (omega arith)
 
-  four-84 : u32_in s 84 ≡ la
+  four_84 : u32_in s 84 ≡ la
   unfolding portion
-  four-84 = u32-is 84 (omega arith) ∙ le4-bytes4 la (omega (arith, short))
+  four_84 = u32_is 84 (omega arith) ∙ le4-bytes4 la (omega (arith, short))
 
-  four-88 : u32_in s 88 ≡ la
+  four_88 : u32_in s 88 ≡ la
   unfolding portion
-  four-88 = u32-is 88 (omega arith) ∙ le4-bytes4 la (omega (arith, short))
+  four_88 = u32_is 88 (omega arith) ∙ le4-bytes4 la (omega (arith, short))
 
-  four-92 : u32_in s 92 ≡ lb
+  four_92 : u32_in s 92 ≡ lb
   unfolding portion
-  four-92 = u32-is 92 (omega arith) ∙ le4-bytes4 lb (omega (arith, short))
+  four_92 = u32_is 92 (omega arith) ∙ le4-bytes4 lb (omega (arith, short))
 
-  four-96 : u32_in s 96 ≡ la + lb
+  four_96 : u32_in s 96 ≡ la + lb
   unfolding portion
-  four-96 = u32-is 96 (omega arith) ∙ le4-bytes4 (la + lb) (omega (arith, short))
+  four_96 = u32_is 96 (omega arith) ∙ le4-bytes4 (la + lb) (omega (arith, short))
 
-  four-100 : u32_in s 100 ≡ lc
+  four_100 : u32_in s 100 ≡ lc
   unfolding portion
-  four-100 = u32-is 100 (omega arith) ∙ le4-bytes4 lc (omega (arith, short))
+  four_100 = u32_is 100 (omega arith) ∙ le4-bytes4 lc (omega (arith, short))
 
-  four-104 : u32_in s 104 ≡ la + (lb + lc)
+  four_104 : u32_in s 104 ≡ la + (lb + lc)
   unfolding portion
-  four-104 = u32-is 104 (omega arith) ∙ le4-bytes4 (la + (lb + lc)) (omega (arith, short))
+  four_104 = u32_is 104 (omega arith) ∙ le4-bytes4 (la + (lb + lc)) (omega (arith, short))
 
-  four-108 : u32_in s 108 ≡ ld
+  four_108 : u32_in s 108 ≡ ld
   unfolding portion
-  four-108 = u32-is 108 (omega arith) ∙ le4-bytes4 ld (omega (arith, short))
+  four_108 = u32_is 108 (omega arith) ∙ le4-bytes4 ld (omega (arith, short))
 
-  four-112 : u32_in s 112 ≡ 0
+  four_112 : u32_in s 112 ≡ 0
   unfolding portion
-  four-112 = u32-is 112 (omega arith)
+  four_112 = u32_is 112 (omega arith)
 
-  four-116 : u32_in s 116 ≡ 0
+  four_116 : u32_in s 116 ≡ 0
   unfolding portion
-  four-116 = u32-is 116 (omega arith)
+  four_116 = u32_is 116 (omega arith)
 
-  part-name : portion ts 0 la ≡ o.name
-  part-name = portion-first o.name _
+  part_name : portion ts 0 la ≡ o.name
+  part_name = portion_first o.name _
 
-  part-state : portion ts la lb ≡ o.trace_state
-  part-state = portion-skip o.name _ la 0 lb (omega arith) ∙ portion-first o.trace_state _
+  part_state : portion ts la lb ≡ o.trace_state
+  part_state = portion-skip o.name _ la 0 lb (omega arith) ∙ portion_first o.trace_state _
 
-  part-scope : portion ts (la + lb) lc ≡ o.scope_name
-  part-scope = portion-skip o.name _ (la + lb) lb lc refl ∙ portion-skip o.trace_state _ lb 0 lc (omega arith) ∙ portion-first o.scope_name _
+  part_scope : portion ts (la + lb) lc ≡ o.scope_name
+  part_scope = portion-skip o.name _ (la + lb) lb lc refl ∙ portion-skip o.trace_state _ lb 0 lc (omega arith) ∙ portion_first o.scope_name _
 
-  part-version : portion ts (la + (lb + lc)) ld ≡ o.scope_version
-  part-version = portion-skip o.name _ (la + (lb + lc)) (lb + lc) ld refl ∙ portion-skip o.trace_state _ (lb + lc) lc ld refl ∙ portion-skip o.scope_name _ lc 0 ld (omega arith) ∙ portion-whole o.scope_version
+  part_version : portion ts (la + (lb + lc)) ld ≡ o.scope_version
+  part_version = portion-skip o.name _ (la + (lb + lc)) (lb + lc) ld refl ∙ portion-skip o.trace_state _ (lb + lc) lc ld refl ∙ portion-skip o.scope_name _ lc 0 ld (omega arith) ∙ portion-whole o.scope_version
 
   part_none : portion ts 0 0 ≡ []
   unfolding portion
@@ -267,35 +267,35 @@ module _ (n : ℕ) (o : Opening) (sz : SizedOpening o) (ok : StartTells n o) whe
   bytes-head : Bytes hd
   bytes-head = let k = sz.kind in bytes_of hd (lit< tt, (lit< tt, (lit< tt, (lit< tt, (low _, (low _, (low _, (low _, (low _, (low _, (k, (lit< tt, (low _, (low _, (low _, (low _, (low _, (low _, (low _, (low _, (low _, (low _, (low _, (low _, (low _, (low _, (low _, (low _, (low _, (low _, (low _, (low _, (low _, (low _, (low _, (low _, (low _, (low _, (low _, (low _, (low _, (low _, (low _, (low _, (low _, (low _, (low _, (low _, (low _, (low _, (low _, (low _, (low _, (low _, (low _, (low _, (lit< tt, (lit< tt, (lit< tt, (lit< tt, (lit< tt, (lit< tt, (lit< tt, (lit< tt, (lit< tt, (lit< tt, (lit< tt, (lit< tt, (lit< tt, (lit< tt, (lit< tt, (lit< tt, (lit< tt, (lit< tt, (lit< tt, (lit< tt, (lit< tt, (lit< tt, (lit< tt, (lit< tt, (lit< tt, (lit< tt, (lit< tt, (lit< tt, (low _, (low _, (low _, (low _, (low _, (low _, (low _, (low _, (low _, (low _, (low _, (low _, (low _, (low _, (low _, (low _, (low _, (low _, (low _, (low _, (low _, (low _, (low _, (low _, (low _, (low _, (low _, (low _, (lit< tt, (lit< tt, (lit< tt, (lit< tt, (lit< tt, (lit< tt, (lit< tt, (lit< tt, tt))))))))))))))))))))))))))))))))))))))))))))))))))))))))))))))))))))))))))))))))))))))))))))))))))))))))))))))))))))))))
 
-  begun-sound : Sound s
-  begun-sound =
+  begun_sound : Sound s
+  begun_sound =
       record {
-        bytes = bytes-written h _ ts (bytes-written (zeros n) 0 hd (bytes-zeros n) bytes-head) (bytes-append o.name _ sz.name (bytes-append o.trace_state _ sz.trace-state (bytes-append o.scope_name o.scope_version sz.scope-name sz.scope-version)));
+        bytes = bytes-written h _ ts (bytes-written (zeros n) 0 hd (bytes-zeros n) bytes-head) (bytes_append o.name _ sz.name (bytes_append o.trace_state _ sz.trace_state (bytes_append o.scope_name o.scope_version sz.scope_name sz.scope_version)));
         small = omega (arith, size, ok.most);
         version = version;
         first_kind = omega (arith, kind, ok.first_kind);
-        last-kind = omega (arith, kind, ok.last-kind);
+        last_kind = omega (arith, kind, ok.last_kind);
         status = omega (arith, status);
-        zero-77 = byte-is 77 (omega arith);
-        zero-78 = byte-is 78 (omega arith);
-        zero-79 = byte-is 79 (omega arith);
+        zero_77 = byte_is 77 (omega arith);
+        zero_78 = byte_is 78 (omega arith);
+        zero_79 = byte_is 79 (omega arith);
         capacity = omega (arith, capacity, ok.capacity);
         rows = omega (arith, rows);
         offset = offset ∙ ap row_place (sym capacity);
         used = omega (arith, offset, used, size, ok.texts, all);
-        heads = head-cases (λ a. TextLawful s (place_in s a) (length_in s a) (longest a))
-            (text-lawful 80 0 la 255 o.name four-80 four-84 (omega (arith, all)) part-name ok.name.0 ok.name.1)
-            (text-lawful 88 la lb 512 o.trace_state four-88 four-92 (omega (arith, all)) part-state ok.trace-state.0 ok.trace-state.1)
-            (text-lawful 96 (la + lb) lc 255 o.scope_name four-96 four-100 (omega (arith, all)) part-scope ok.scope-name.0 ok.scope-name.1)
-            (text-lawful 104 (la + (lb + lc)) ld 255 o.scope_version four-104 four-108 (omega (arith, all)) part-version ok.scope-version.0 ok.scope-version.1)
-            (text-lawful 112 0 0 1024 [] four-112 four-116 (omega arith) part_none (omega arith) ([], (refl, refl)));
+        heads = head_cases (λ a. TextLawful s (place_in s a) (length_in s a) (longest a))
+            (text-lawful 80 0 la 255 o.name four_80 four_84 (omega (arith, all)) part_name ok.name.0 ok.name.1)
+            (text-lawful 88 la lb 512 o.trace_state four_88 four_92 (omega (arith, all)) part_state ok.trace_state.0 ok.trace_state.1)
+            (text-lawful 96 (la + lb) lc 255 o.scope_name four_96 four_100 (omega (arith, all)) part_scope ok.scope_name.0 ok.scope_name.1)
+            (text-lawful 104 (la + (lb + lc)) ld 255 o.scope_version four_104 four_108 (omega (arith, all)) part_version ok.scope_version.0 ok.scope_version.1)
+            (text-lawful 112 0 0 1024 [] four_112 four_116 (omega arith) part_none (omega arith) ([], (refl, refl)));
         each = λ i lt. absurd (omega (arith, rows));
       }
 
   no_rows : row_facts s ≡ []
   no_rows = rows_mapped s ∙ ap (λ k. map (row_fact s) (range_with_len 0 k)) rows
 
-  begun-facts : (t : ℤ) → i64_in s 56 ≡ t
+  begun_facts : (t : ℤ) → i64_in s 56 ≡ t
       → facts s ≡ record {
         trace_high = o.trace_high;
         trace_low = o.trace_low;
@@ -312,18 +312,18 @@ module _ (n : ℕ) (o : Opening) (sz : SizedOpening o) (ok : StartTells n o) whe
         description = [];
         rows = [];
       }
-  begun-facts t f =
+  begun_facts t f =
       let st = ap status_of status in
-      let na = text-is 80 0 la 255 o.name four-80 four-84 (omega (arith, all)) part-name in
-      let tr = text-is 88 la lb 512 o.trace_state four-88 four-92 (omega (arith, all)) part-state in
-      let sn = text-is 96 (la + lb) lc 255 o.scope_name four-96 four-100 (omega (arith, all)) part-scope in
-      let sv = text-is 104 (la + (lb + lc)) ld 255 o.scope_version four-104 four-108 (omega (arith, all)) part-version in
-      let de = text-is 112 0 0 1024 [] four-112 four-116 (omega arith) part_none in
+      let na = text_is 80 0 la 255 o.name four_80 four_84 (omega (arith, all)) part_name in
+      let tr = text_is 88 la lb 512 o.trace_state four_88 four_92 (omega (arith, all)) part_state in
+      let sn = text_is 96 (la + lb) lc 255 o.scope_name four_96 four_100 (omega (arith, all)) part_scope in
+      let sv = text_is 104 (la + (lb + lc)) ld 255 o.scope_version four_104 four_108 (omega (arith, all)) part_version in
+      let de = text_is 112 0 0 1024 [] four_112 four_116 (omega arith) part_none in
       λ i. record {
-        trace_high = trace-high i;
-        trace_low = trace-low i;
-        span_id = span-id i;
-        parent_id = parent-id i;
+        trace_high = trace_high i;
+        trace_low = trace_low i;
+        span_id = span_id i;
+        parent_id = parent_id i;
         start = start i;
         finish = f i;
         kind = span_kind_of (kind i);
@@ -338,7 +338,7 @@ module _ (n : ℕ) (o : Opening) (sz : SizedOpening o) (ok : StartTells n o) whe
 
   pub start-sound : Sound (started n o)
   unfolding started
-  start-sound = begun-sound
+  start-sound = begun_sound
 
   pub start-facts : facts (started n o) ≡ record {
     trace_high = o.trace_high;
@@ -357,4 +357,4 @@ module _ (n : ℕ) (o : Opening) (sz : SizedOpening o) (ok : StartTells n o) whe
     rows = [];
   }
   unfolding started
-  start-facts = begun-facts _ refl
+  start-facts = begun_facts _ refl

@@ -5,7 +5,7 @@ use Rattle.lent_bytes.specs.Fields.{u32_in, bytes4}
 use Rattle.lent_bytes.proofs.Frames.{length-written, le4-bytes4}
 use Rattle.blocks.specs.Layout.{rows_in, offset_in, capacity_in, used_in, place_in, length_in}
 use Rattle.drafts.specs.Writes.{headed}
-use Rattle.block_laws.proofs.Kept.{Kept, u16-kept, u32-kept, portion-place, u32-place, behind, ahead, then, narrow, portion-whole}
+use Rattle.block_laws.proofs.Kept.{Kept, u16_kept, u32_kept, portion-place, u32_place, behind, ahead, then, narrow, portion-whole}
 use Rattle.block_laws.proofs.Sound.{Sound, Step, Head}
 use Rattle.draft_law.proofs.Rowed.{four}
 
@@ -56,14 +56,14 @@ module _ (m : List ℕ) (so : Sound m) (h : ℕ) (hd : Head h) (t : List ℕ) (r
   pub headed-behind : Kept m y3 (h + 8) at
   headed-behind = then m y2 y3 _ _ (then m y1 y2 _ _ (behind m _ _ _ _ (omega arith)) (ahead y1 _ _ _ _ (omega arith))) (ahead y2 _ _ _ _ (omega (arith, hd.0)))
 
-  pub has-place : place_in y3 h ≡ used_in m
-  has-place = u32-kept y2 y3 16 120 (ahead y2 _ _ _ _ (omega arith)) h (omega (arith, hd.0)) (omega (arith, hd.1.0)) ∙ u32-place y1 h pair h 0 (omega arith) (omega (arith, t1, low, so.used, hd.1.0)) (omega arith) ∙ pair_place (used_in m) _ (omega (arith, wide))
+  pub has_place : place_in y3 h ≡ used_in m
+  has_place = u32_kept y2 y3 16 120 (ahead y2 _ _ _ _ (omega arith)) h (omega (arith, hd.0)) (omega (arith, hd.1.0)) ∙ u32_place y1 h pair h 0 (omega arith) (omega (arith, t1, low, so.used, hd.1.0)) (omega arith) ∙ pair_place (used_in m) _ (omega (arith, wide))
 
-  pub has-length : length_in y3 h ≡ length t
-  has-length = u32-kept y2 y3 16 120 (ahead y2 _ _ _ _ (omega arith)) (h + 4) (omega (arith, hd.0)) (omega (arith, hd.1.0)) ∙ u32-place y1 h pair (h + 4) 4 refl (omega (arith, t1, low, so.used, hd.1.0)) (omega arith) ∙ pair-length (used_in m) _ (omega (arith, wide))
+  pub has_length : length_in y3 h ≡ length t
+  has_length = u32_kept y2 y3 16 120 (ahead y2 _ _ _ _ (omega arith)) (h + 4) (omega (arith, hd.0)) (omega (arith, hd.1.0)) ∙ u32_place y1 h pair (h + 4) 4 refl (omega (arith, t1, low, so.used, hd.1.0)) (omega arith) ∙ pair-length (used_in m) _ (omega (arith, wide))
 
-  pub has-text : portion y3 at (length t) ≡ t
-  has-text = then y1 y2 y3 120 (at + length t) (ahead y1 _ _ _ _ (omega (arith, hd.1.0))) (ahead y2 _ _ _ _ (omega arith)) _ _ low (omega arith) ∙ portion-place m at t at 0 (omega arith) (omega (arith, room)) (length t) (omega arith) ∙ portion-whole t
+  pub has_text : portion y3 at (length t) ≡ t
+  has_text = then y1 y2 y3 120 (at + length t) (ahead y1 _ _ _ _ (omega (arith, hd.1.0))) (ahead y2 _ _ _ _ (omega arith)) _ _ low (omega arith) ∙ portion-place m at t at 0 (omega arith) (omega (arith, room)) (length t) (omega arith) ∙ portion-whole t
 
   pub headed-step : Step m y3 (capacity_in m) (rows_in m) (used_in m + length t)
   headed-step =
@@ -72,8 +72,8 @@ module _ (m : List ℕ) (so : Sound m) (h : ℕ) (hd : Head h) (t : List ℕ) (r
         version = narrow m y3 _ _ _ _ headed-start (omega arith) (omega arith);
         fixed = narrow m y3 _ _ _ _ headed-start (omega arith) (omega arith);
         zeros = narrow m y3 _ _ _ _ headed-front (omega arith) (omega (arith, hd.0));
-        count = u16-kept m y3 _ _ headed-start 2 (omega arith) (omega arith);
-        used = u32-place y2 12 (bytes4 (used_in m + length t)) 12 0 (omega arith) (omega (arith, t2, low, so.used)) (omega arith) ∙ four _ wide;
+        count = u16_kept m y3 _ _ headed-start 2 (omega arith) (omega arith);
+        used = u32_place y2 12 (bytes4 (used_in m + length t)) 12 0 (omega arith) (omega (arith, t2, low, so.used)) (omega arith) ∙ four _ wide;
         grows = omega arith;
         most = so.rows;
         fit = room;
@@ -95,8 +95,8 @@ module _ (m : List ℕ) (so : Sound m) (at : ℕ) (s : List ℕ) where
         version = behind m _ _ _ _ (omega arith);
         fixed = behind m _ _ _ _ (omega arith);
         zeros = ahead m _ _ _ _ (omega arith);
-        count = u16-kept m z 0 11 (behind m _ _ _ _ (omega arith)) 2 (omega arith) (omega arith);
-        used = u32-kept m z 12 16 (ahead m _ _ _ _ (omega arith)) 12 (omega arith) (omega arith);
+        count = u16_kept m z 0 11 (behind m _ _ _ _ (omega arith)) 2 (omega arith) (omega arith);
+        used = u32_kept m z 12 16 (ahead m _ _ _ _ (omega arith)) 12 (omega arith) (omega arith);
         grows = omega arith;
         most = so.rows;
         fit = so.used;
@@ -113,8 +113,8 @@ module _ (m : List ℕ) (so : Sound m) (at : ℕ) (s : List ℕ) where
         version = behind m _ _ _ _ (omega arith);
         fixed = behind m _ _ _ _ (omega arith);
         zeros = ⊎_elim (λ (b : at + length s ≤ 77). ahead m at s 77 80 (omega arith)) (λ (a : 80 ≤ at). behind m at s 77 80 (omega arith)) away;
-        count = u16-kept m z 0 16 (behind m _ _ _ _ (omega arith)) 2 (omega arith) (omega arith);
-        used = u32-kept m z 0 16 (behind m _ _ _ _ (omega arith)) 12 (omega arith) (omega arith);
+        count = u16_kept m z 0 16 (behind m _ _ _ _ (omega arith)) 2 (omega arith) (omega arith);
+        used = u32_kept m z 0 16 (behind m _ _ _ _ (omega arith)) 12 (omega arith) (omega arith);
         grows = omega arith;
         most = so.rows;
         fit = so.used;

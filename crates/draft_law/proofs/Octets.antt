@@ -4,7 +4,7 @@ use Rattle.std.proofs.lemmas.Bool.{cases_lt}
 use Rattle.std.proofs.lemmas.List.{get_or_past, get_or-replicate, length-replicate}
 use Rattle.lent_bytes.specs.Memory.{Bytes, written}
 use Rattle.lent_bytes.specs.Fields.{bytes2, bytes4, bytes8}
-use Rattle.lent_bytes.proofs.Frames.{length-written, get_or-before, get_or-after, get_or-within}
+use Rattle.lent_bytes.proofs.Frames.{length-written, get_or_before, get_or-after, get_or-within}
 use Rattle.blocks.specs.Layout.{Row}
 use Rattle.drafts.specs.Writes.{row_bytes, id_bytes}
 
@@ -18,21 +18,21 @@ bytes_of [] h i = omega arith
 bytes_of (x ∷ xs) h zero = h.0
 bytes_of (x ∷ xs) h (suc i) = bytes_of xs h.1 i
 
-pub octets-of : (xs : List ℕ) → Bytes xs → Octets xs
-octets-of [] b = tt
-octets-of (x ∷ xs) b = (b 0, octets-of xs (λ i. b (suc i)))
+pub octets_of : (xs : List ℕ) → Bytes xs → Octets xs
+octets_of [] b = tt
+octets_of (x ∷ xs) b = (b 0, octets_of xs (λ i. b (suc i)))
 
-pub octets-append : (xs ys : List ℕ) → Octets xs → Octets ys → Octets (xs ++ ys)
-octets-append [] ys a b = b
-octets-append (x ∷ xs) ys a b = (a.0, octets-append xs ys a.1 b)
+pub octets_append : (xs ys : List ℕ) → Octets xs → Octets ys → Octets (xs ++ ys)
+octets_append [] ys a b = b
+octets_append (x ∷ xs) ys a b = (a.0, octets_append xs ys a.1 b)
 
-pub bytes-append : (xs ys : List ℕ) → Bytes xs → Bytes ys → Bytes (xs ++ ys)
-bytes-append xs ys a b = bytes_of (xs ++ ys) (octets-append xs ys (octets-of xs a) (octets-of ys b))
+pub bytes_append : (xs ys : List ℕ) → Bytes xs → Bytes ys → Bytes (xs ++ ys)
+bytes_append xs ys a b = bytes_of (xs ++ ys) (octets_append xs ys (octets_of xs a) (octets_of ys b))
 
 pub bytes-written : (m : List ℕ) (at : ℕ) (s : List ℕ) → Bytes m → Bytes s → Bytes (written m at s)
 bytes-written m at s a b i =
     ⊎_elim
-    (λ (lt : i < at). let e = get_or-before m at s i 0 lt in omega (arith, a i))
+    (λ (lt : i < at). let e = get_or_before m at s i 0 lt in omega (arith, a i))
     (λ (ge : at ≤ i).
     ⊎_elim
     (λ (lt : i < at + length s).
@@ -47,23 +47,23 @@ bytes-written m at s a b i =
 pub low : (v : ℕ) → v % 256 < 256
 low v = omega arith
 
-pub octets-two : (v : ℕ) → Octets (bytes2 v)
-octets-two v = (low _, (low _, tt))
+pub octets_two : (v : ℕ) → Octets (bytes2 v)
+octets_two v = (low _, (low _, tt))
 
-pub octets-four : (v : ℕ) → Octets (bytes4 v)
-octets-four v = (low _, (low _, (low _, (low _, tt))))
+pub octets_four : (v : ℕ) → Octets (bytes4 v)
+octets_four v = (low _, (low _, (low _, (low _, tt))))
 
-pub octets-eight : (v : ℕ) → Octets (bytes8 v)
-octets-eight v = (low _, (low _, (low _, (low _, (low _, (low _, (low _, (low _, tt))))))))
+pub octets_eight : (v : ℕ) → Octets (bytes8 v)
+octets_eight v = (low _, (low _, (low _, (low _, (low _, (low _, (low _, (low _, tt))))))))
 
-pub octets-id : (v : ℕ) → Octets (id_bytes v)
-octets-id v = (low _, (low _, (low _, (low _, (low _, (low _, (low _, (low _, tt))))))))
+pub octets_id : (v : ℕ) → Octets (id_bytes v)
+octets_id v = (low _, (low _, (low _, (low _, (low _, (low _, (low _, (low _, tt))))))))
 
 pub bytes-two : (v : ℕ) → Bytes (bytes2 v)
-bytes-two v = bytes_of (bytes2 v) (octets-two v)
+bytes-two v = bytes_of (bytes2 v) (octets_two v)
 
 pub bytes-four : (v : ℕ) → Bytes (bytes4 v)
-bytes-four v = bytes_of (bytes4 v) (octets-four v)
+bytes-four v = bytes_of (bytes4 v) (octets_four v)
 
 pub bytes-row : (x : Row) → x.list < 256 → x.kind < 256 → Bytes (row_bytes x)
 bytes-row x l k = bytes_of (row_bytes x) (l, (k, (low _, (low _, (low _, (low _, (low _, (low _, (low _, (low _, (low _, (low _, (low _, (low _, (low _, (low _, (low _, (low _, (low _, (low _, (low _, (low _, (low _, (low _, tt))))))))))))))))))))))))

@@ -10,22 +10,22 @@ use Rattle.blocks.specs.Facts.{facts, header_text, row_facts, status_of}
 use Rattle.blocks.specs.Lawful.{TextLawful}
 use Rattle.drafts.specs.Held.{Outcome}
 use Rattle.drafts.specs.Writes.{headed, drop_more}
-use Rattle.block_laws.proofs.Kept.{Kept, byte-kept, byte-place, u32-place, behind, ahead, narrow, portion-none}
-use Rattle.block_laws.proofs.Sound.{Sound, Step, Head, head-80, head-88, head-96, head-104, head-112, longest, offset_step, kind-step, sound-step}
+use Rattle.block_laws.proofs.Kept.{Kept, byte_kept, byte_place, u32_place, behind, ahead, narrow, portion-none}
+use Rattle.block_laws.proofs.Sound.{Sound, Step, Head, head_80, head_88, head_96, head_104, head_112, longest, offset_step, kind-step, sound-step}
 use Rattle.block_laws.proofs.Listed.{rows_same}
-use Rattle.draft_law.proofs.Headed.{pair_place, pair-length, headed-start, headed-front, headed-behind, has-place, has-length, has-text, headed-step, status-step, flat_step}
-use Rattle.draft_law.proofs.Octets.{bytes_of, bytes-append, bytes-written, bytes-four}
+use Rattle.draft_law.proofs.Headed.{pair_place, pair-length, headed-start, headed-front, headed-behind, has_place, has_length, has_text, headed-step, status-step, flat_step}
+use Rattle.draft_law.proofs.Octets.{bytes_of, bytes_append, bytes-written, bytes-four}
 use Rattle.draft_law.proofs.Told.{outcome_of, changed, head-kept, head-lawful, facts-step}
 
 -- a step of the header alone changes no row
 abbrev Ids : List ℕ → List ℕ → ℕ → Type 0
 Ids m m' j = j < rows_in m → (list_in m' j ≡ list_in m j) × (key_in m' (row_at m' (row_place j)) ≡ key_in m (row_at m (row_place j)))
 
-no-ids : (m m' : List ℕ) → Sound m → Ids m m' (capacity_in m)
-no-ids m m' so h = absurd (omega (arith, so.rows))
+no_ids : (m m' : List ℕ) → Sound m → Ids m m' (capacity_in m)
+no_ids m m' so h = absurd (omega (arith, so.rows))
 
 pub head-sound : (m m' : List ℕ) (u : ℕ) (so : Sound m) → Step m m' (capacity_in m) (rows_in m) u → Bytes m' → status_in m' ≤ 2 → ((h : ℕ) → Head h → TextLawful m' (place_in m' h) (length_in m' h) (longest h)) → Sound m'
-head-sound m m' u so st b s hs = sound-step m m' _ _ _ so st (no-ids m m' so) b s hs (λ lt. absurd (omega (arith, so.rows)))
+head-sound m m' u so st b s hs = sound-step m m' _ _ _ so st (no_ids m m' so) b s hs (λ lt. absurd (omega (arith, so.rows)))
 
 -- a text of the header at h
 module _ (m : List ℕ) (so : Sound m) (h : ℕ) (hd : Head h) (t : List ℕ) (room : offset_in m + (used_in m + length t) ≤ length m) (short : length t ≤ longest h) (utf8 : IsUtf8 t) (bt : Bytes t) where
@@ -35,18 +35,18 @@ module _ (m : List ℕ) (so : Sound m) (h : ℕ) (hd : Head h) (t : List ℕ) (r
   st : Step m y (capacity_in m) (rows_in m) (used_in m + length t)
   st = headed-step m so h hd t room
 
-  text-is : text_in y (used_in m) (length t) ≡ t
-  text-is = ap (λ o. portion y (o + used_in m) (length t)) (offset_step m y _ _ _ so st) ∙ has-text m so h hd t room
+  text_is : text_in y (used_in m) (length t) ≡ t
+  text_is = ap (λ o. portion y (o + used_in m) (length t)) (offset_step m y _ _ _ so st) ∙ has_text m so h hd t room
 
-  pub headed-is : header_text y h ≡ t
-  headed-is =
-      let a = has-place m so h hd t room in
-      let b = has-length m so h hd t room in
-      (λ i. text_in y (a i) (b i)) ∙ text-is
+  pub headed_is : header_text y h ≡ t
+  headed_is =
+      let a = has_place m so h hd t room in
+      let b = has_length m so h hd t room in
+      (λ i. text_in y (a i) (b i)) ∙ text_is
 
   -- the others stay
-  pub other-kept : (g : ℕ) → Head g → (g ≡ h → ⊥) → Kept m y g (g + 8)
-  other-kept g gd ne =
+  pub other_kept : (g : ℕ) → Head g → (g ≡ h → ⊥) → Kept m y g (g + 8)
+  other_kept g gd ne =
       let g0 = gd.0 in let g1 = gd.1.0 in let g2 = gd.1.1 in
       let h0 = hd.0 in let h1 = hd.1.0 in let h2 = hd.1.1 in
       ⊎_elim
@@ -54,35 +54,35 @@ module _ (m : List ℕ) (so : Sound m) (h : ℕ) (hd : Head h) (t : List ℕ) (r
       (λ (ge : h ≤ g). let gt : h < g = grind arith in narrow m y _ _ _ _ (headed-behind m so h hd t room) (omega arith) (omega (arith, so.offset)))
       (cases_lt g h)
 
-  own-lawful : TextLawful y (place_in y h) (length_in y h) (longest h)
-  own-lawful =
-      let a = has-place m so h hd t room in
-      let b = has-length m so h hd t room in
-      let it : TextLawful y (used_in m) (length t) (longest h) = record { short = short; inside = omega (arith, st.used); utf8 = subst IsUtf8 (sym text-is) utf8 } in
+  own_lawful : TextLawful y (place_in y h) (length_in y h) (longest h)
+  own_lawful =
+      let a = has_place m so h hd t room in
+      let b = has_length m so h hd t room in
+      let it : TextLawful y (used_in m) (length t) (longest h) = record { short = short; inside = omega (arith, st.used); utf8 = subst IsUtf8 (sym text_is) utf8 } in
       subst (λ p. TextLawful y p (length_in y h) (longest h)) (sym a) (subst (λ n. TextLawful y (used_in m) n (longest h)) (sym b) it)
 
   pub headed-sound : Sound y
   headed-sound =
       head-sound m y _ so st
-      (bytes-written _ _ _ (bytes-written _ _ _ (bytes-written m _ t so.bytes bt) (bytes-append (bytes4 (used_in m)) (bytes4 (length t)) (bytes-four _) (bytes-four _))) (bytes-four _))
-      (omega (arith, byte-kept m y _ _ (headed-start m so h hd t room) 11 (omega arith) (omega arith), so.status))
+      (bytes-written _ _ _ (bytes-written _ _ _ (bytes-written m _ t so.bytes bt) (bytes_append (bytes4 (used_in m)) (bytes4 (length t)) (bytes-four _) (bytes-four _))) (bytes-four _))
+      (omega (arith, byte_kept m y _ _ (headed-start m so h hd t room) 11 (omega arith) (omega arith), so.status))
       (λ g gd.
       ⊎_elim
-      (λ (e : g ≡ h). subst (λ (x : ℕ). TextLawful y (place_in y x) (length_in y x) (longest x)) (sym e) own-lawful)
-      (λ (ne : g ≡ h → ⊥). head-lawful m y _ _ _ so st g gd (other-kept g gd ne))
+      (λ (e : g ≡ h). subst (λ (x : ℕ). TextLawful y (place_in y x) (length_in y x) (longest x)) (sym e) own_lawful)
+      (λ (ne : g ≡ h → ⊥). head-lawful m y _ _ _ so st g gd (other_kept g gd ne))
       (cases_eq g h))
 
   kept : (g : ℕ) (gd : Head g) → (g ≡ h → ⊥) → header_text y g ≡ header_text m g
-  kept g gd ne = head-kept m y _ _ _ so st g gd (other-kept g gd ne)
+  kept g gd ne = head-kept m y _ _ _ so st g gd (other_kept g gd ne)
 
   pub headed-facts : (o : Outcome) → status_of (status_in m) ≡ o.code → header_text y 112 ≡ o.description → (n : List ℕ) → header_text y 80 ≡ n → (h ≡ 80) ⊎ (h ≡ 112) → facts y ≡ changed (facts m) o n (row_facts m)
   headed-facts o s d n na at =
       facts-step m y (narrow m y _ _ _ _ (headed-front m so h hd t room) (omega arith) (omega (arith, hd.0))) (kind-step m y _ _ _ so st)
-      o (ap status_of (byte-kept m y _ _ (headed-start m so h hd t room) 11 (omega arith) (omega arith)) ∙ s) d
+      o (ap status_of (byte_kept m y _ _ (headed-start m so h hd t room) 11 (omega arith) (omega arith)) ∙ s) d
       n na
-      (kept 88 head-88 (λ e. not 88 e (λ x. omega arith) (λ x. omega arith)))
-      (kept 96 head-96 (λ e. not 96 e (λ x. omega arith) (λ x. omega arith)))
-      (kept 104 head-104 (λ e. not 104 e (λ x. omega arith) (λ x. omega arith)))
+      (kept 88 head_88 (λ e. not 88 e (λ x. omega arith) (λ x. omega arith)))
+      (kept 96 head_96 (λ e. not 96 e (λ x. omega arith) (λ x. omega arith)))
+      (kept 104 head_104 (λ e. not 104 e (λ x. omega arith) (λ x. omega arith)))
       (row_facts m) (rows_same m y _ _ so st so.rows)
     where
       not : (g : ℕ) → g ≡ h → (g ≡ 80 → ⊥) → (g ≡ 112 → ⊥) → ⊥
@@ -92,21 +92,21 @@ module _ (m : List ℕ) (so : Sound m) (h : ℕ) (hd : Head h) (t : List ℕ) (r
 pub renamed : (m : List ℕ) (so : Sound m) (t : List ℕ) → offset_in m + (used_in m + length t) ≤ length m → length t ≤ 255 → IsUtf8 t → Bytes t
     → Sound (headed m 80 t) × (facts (headed m 80 t) ≡ changed (facts m) (outcome_of (facts m)) t (row_facts m))
 renamed m so t room short u b =
-    let hd = head-80 in
+    let hd = head_80 in
     let y = headed m 80 t in
     let st = headed-step m so 80 hd t room in
-    let d = head-kept m y _ _ _ so st 112 head-112 (other-kept m so 80 hd t room short u b 112 head-112 (λ e. omega arith)) in
-    (headed-sound m so 80 hd t room short u b, headed-facts m so 80 hd t room short u b (outcome_of (facts m)) refl d t (headed-is m so 80 hd t room short u b) (inl refl))
+    let d = head-kept m y _ _ _ so st 112 head_112 (other_kept m so 80 hd t room short u b 112 head_112 (λ e. omega arith)) in
+    (headed-sound m so 80 hd t room short u b, headed-facts m so 80 hd t room short u b (outcome_of (facts m)) refl d t (headed_is m so 80 hd t room short u b) (inl refl))
 
 -- a description
 pub described : (m : List ℕ) (so : Sound m) (t : List ℕ) → offset_in m + (used_in m + length t) ≤ length m → length t ≤ 1024 → IsUtf8 t → Bytes t
     → Sound (headed m 112 t) × (facts (headed m 112 t) ≡ changed (facts m) (record { code = (facts m).status; description = t }) (facts m).name (row_facts m))
 described m so t room short u b =
-    let hd = head-112 in
+    let hd = head_112 in
     let y = headed m 112 t in
     let st = headed-step m so 112 hd t room in
-    let n = head-kept m y _ _ _ so st 80 head-80 (other-kept m so 112 hd t room short u b 80 head-80 (λ e. omega arith)) in
-    (headed-sound m so 112 hd t room short u b, headed-facts m so 112 hd t room short u b (record { code = (facts m).status; description = t }) refl (headed-is m so 112 hd t room short u b) _ n (inr refl))
+    let n = head-kept m y _ _ _ so st 80 head_80 (other_kept m so 112 hd t room short u b 80 head_80 (λ e. omega arith)) in
+    (headed-sound m so 112 hd t room short u b, headed-facts m so 112 hd t room short u b (record { code = (facts m).status; description = t }) refl (headed_is m so 112 hd t room short u b) _ n (inr refl))
 
 -- a status alone
 pub status-set : (m : List ℕ) (so : Sound m) (s : ℕ) → s ≤ 2
@@ -114,13 +114,13 @@ pub status-set : (m : List ℕ) (so : Sound m) (s : ℕ) → s ≤ 2
 status-set m so s le =
     let z = written m 11 (s ∷ []) in
     let st = status-step m so 11 (s ∷ []) refl refl in
-    let is : status_in z ≡ s = byte-place m 11 (s ∷ []) 11 0 (omega arith) (omega (arith, so.offset, so.used)) (omega arith) in
+    let is : status_in z ≡ s = byte_place m 11 (s ∷ []) 11 0 (omega arith) (omega (arith, so.offset, so.used)) (omega arith) in
     let k : (g : ℕ) → Head g → Kept m z g (g + 8) = λ g gd. ahead m 11 (s ∷ []) _ _ (omega (arith, gd.0)) in
     let hk : (g : ℕ) (gd : Head g) → header_text z g ≡ header_text m g = λ g gd. head-kept m z _ _ _ so st g gd (k g gd) in (
       head-sound m z _ so st (bytes-written m 11 (s ∷ []) so.bytes (bytes_of (s ∷ []) (omega arith, tt))) (omega arith) (λ g gd. head-lawful m z _ _ _ so st g gd (k g gd)),
       facts-step m z (ahead m 11 (s ∷ []) _ _ (omega arith)) (kind-step m z _ _ _ so st)
-          (record { code = status_of s; description = (facts m).description }) (ap status_of is) (hk 112 head-112)
-          (facts m).name (hk 80 head-80) (hk 88 head-88) (hk 96 head-96) (hk 104 head-104)
+          (record { code = status_of s; description = (facts m).description }) (ap status_of is) (hk 112 head_112)
+          (facts m).name (hk 80 head_80) (hk 88 head_88) (hk 96 head_96) (hk 104 head_104)
           (row_facts m) (rows_same m z _ _ so st so.rows),
     )
 
@@ -132,11 +132,11 @@ dropped m so at low high =
     let st = flat_step m so at s (omega arith) (omega arith) (inl (omega arith)) in
     let k : (g : ℕ) → Head g → Kept m z g (g + 8) = λ g gd. ahead m at s _ _ (omega (arith, gd.0)) in
     let hk : (g : ℕ) (gd : Head g) → header_text z g ≡ header_text m g = λ g gd. head-kept m z _ _ _ so st g gd (k g gd) in
-    let same = byte-kept m z 0 64 (behind m at s _ _ (omega arith)) 11 (omega arith) (omega arith) in (
+    let same = byte_kept m z 0 64 (behind m at s _ _ (omega arith)) 11 (omega arith) (omega arith) in (
       head-sound m z _ so st (bytes-written m at s so.bytes (bytes-four _)) (omega (arith, same, so.status)) (λ g gd. head-lawful m z _ _ _ so st g gd (k g gd)),
       facts-step m z (behind m at s _ _ (omega arith)) (kind-step m z _ _ _ so st)
-          (outcome_of (facts m)) (ap status_of same) (hk 112 head-112)
-          (facts m).name (hk 80 head-80) (hk 88 head-88) (hk 96 head-96) (hk 104 head-104)
+          (outcome_of (facts m)) (ap status_of same) (hk 112 head_112)
+          (facts m).name (hk 80 head_80) (hk 88 head_88) (hk 96 head_96) (hk 104 head_104)
           (row_facts m) (rows_same m z _ _ so st so.rows),
     )
 
@@ -148,22 +148,22 @@ undescribed m so =
     let z = written m 112 s in
     let st = flat_step m so 112 s (omega arith) (omega arith) (inr (omega arith)) in
     let end : 120 ≤ length m = omega (arith, so.offset, so.used) in
-    let p : place_in z 112 ≡ 0 = u32-place m 112 s 112 0 (omega arith) (omega arith) (omega arith) ∙ pair_place 0 0 (omega arith) in
-    let n : length_in z 112 ≡ 0 = u32-place m 112 s 116 4 (omega arith) (omega arith) (omega arith) ∙ pair-length 0 0 (omega arith) in
+    let p : place_in z 112 ≡ 0 = u32_place m 112 s 112 0 (omega arith) (omega arith) (omega arith) ∙ pair_place 0 0 (omega arith) in
+    let n : length_in z 112 ≡ 0 = u32_place m 112 s 116 4 (omega arith) (omega arith) (omega arith) ∙ pair-length 0 0 (omega arith) in
     let none : text_in z 0 0 ≡ [] = portion-none z _ in
     let k : (g : ℕ) → Head g → (g ≡ 112 → ⊥) → Kept m z g (g + 8) = λ g gd ne. behind m 112 s _ _ (let a = gd.1.0 in let b = gd.1.1 in let lt : g < 112 = grind arith in omega arith) in
     let hk : (g : ℕ) (gd : Head g) → (g ≡ 112 → ⊥) → header_text z g ≡ header_text m g = λ g gd ne. head-kept m z _ _ _ so st g gd (k g gd ne) in
     let own : TextLawful z (place_in z 112) (length_in z 112) (longest 112) =
     let it : TextLawful z 0 0 (longest 112) = record { short = omega arith; inside = omega arith; utf8 = subst IsUtf8 (sym none) ([], (refl, refl)) } in
     subst (λ a. TextLawful z a (length_in z 112) (longest 112)) (sym p) (subst (λ a. TextLawful z 0 a (longest 112)) (sym n) it) in
-    let same = byte-kept m z 0 112 (behind m 112 s _ _ (omega arith)) 11 (omega arith) (omega arith) in (
-      head-sound m z _ so st (bytes-written m 112 s so.bytes (bytes-append (bytes4 0) (bytes4 0) (bytes-four 0) (bytes-four 0))) (omega (arith, same, so.status))
+    let same = byte_kept m z 0 112 (behind m 112 s _ _ (omega arith)) 11 (omega arith) (omega arith) in (
+      head-sound m z _ so st (bytes-written m 112 s so.bytes (bytes_append (bytes4 0) (bytes4 0) (bytes-four 0) (bytes-four 0))) (omega (arith, same, so.status))
           (λ g gd. ⊎_elim
           (λ (e : g ≡ 112). subst (λ (x : ℕ). TextLawful z (place_in z x) (length_in z x) (longest x)) (sym e) own)
           (λ (ne : g ≡ 112 → ⊥). head-lawful m z _ _ _ so st g gd (k g gd ne))
           (cases_eq g 112)),
       facts-step m z (behind m 112 s _ _ (omega arith)) (kind-step m z _ _ _ so st)
           (record { code = (facts m).status; description = [] }) (ap status_of same) ((λ i. text_in z (p i) (n i)) ∙ none)
-          (facts m).name (hk 80 head-80 (λ e. omega arith)) (hk 88 head-88 (λ e. omega arith)) (hk 96 head-96 (λ e. omega arith)) (hk 104 head-104 (λ e. omega arith))
+          (facts m).name (hk 80 head_80 (λ e. omega arith)) (hk 88 head_88 (λ e. omega arith)) (hk 96 head_96 (λ e. omega arith)) (hk 104 head_104 (λ e. omega arith))
           (row_facts m) (rows_same m z _ _ so st so.rows),
     )

@@ -9,10 +9,10 @@ use Rattle.blocks.specs.Lawful.{ValueLawful, RowLawful}
 use Rattle.drafts.specs.Held.{Content}
 use Rattle.drafts.specs.Search.{place_from}
 use Rattle.drafts.specs.Writes.{row_bytes, rowed, valued}
-use Rattle.block_laws.proofs.Kept.{byte-kept, narrow, portion-whole}
+use Rattle.block_laws.proofs.Kept.{byte_kept, narrow, portion-whole}
 use Rattle.block_laws.proofs.Sound.{Sound, Step, offset_step, text-step, text-lawful-step, list-step, key_step, above_step, sound-step}
-use Rattle.block_laws.proofs.Listed.{length-rows, get_or-rows, rows-replace}
-use Rattle.draft_law.proofs.Rowed.{Fit, rowed-fixed, rowed-front, rowed-step, is_row, is-text}
+use Rattle.block_laws.proofs.Listed.{length-rows, get_or-rows, rows_replace}
+use Rattle.draft_law.proofs.Rowed.{Fit, rowed-fixed, rowed-front, rowed-step, is_row, text_stands}
 use Rattle.draft_law.proofs.Octets.{bytes-written, bytes-two, bytes-four, bytes-row}
 use Rattle.draft_law.proofs.Tagged.{row_from, put, put_some, Placed}
 use Rattle.draft_law.proofs.Told.{outcome_of, changed, head-lawful}
@@ -44,10 +44,10 @@ module _ (m : List ℕ) (so : Sound m) (l : ℕ) (k : List ℕ) (c : Content) (s
   none = omega arith
 
   list-was : q.list ≡ l
-  list-was = ap (λ (f : RowFact). f.list) (sym (get_or-rows m j (row_from l k c) here)) ∙ (rw none at (place.list-is (row_from l k c)))
+  list-was = ap (λ (f : RowFact). f.list) (sym (get_or-rows m j (row_from l k c) here)) ∙ (rw none at (place.list_is (row_from l k c)))
 
   key-was : key_in m q ≡ k
-  key-was = ap (λ (f : RowFact). f.key) (sym (get_or-rows m j (row_from l k c) here)) ∙ (rw none at (place.key-is (row_from l k c)))
+  key-was = ap (λ (f : RowFact). f.key) (sym (get_or-rows m j (row_from l k c) here)) ∙ (rw none at (place.key_is (row_from l k c)))
 
   ok : Fit m j (rows_in m) x t
   ok =
@@ -59,7 +59,7 @@ module _ (m : List ℕ) (so : Sound m) (l : ℕ) (k : List ℕ) (c : Content) (s
         short = omega (arith, was.key.short, longest-key q.list);
         key = omega (arith, was.key.inside);
         value = omega arith;
-        time = sa.time-fits;
+        time = sa.time_fits;
       }
 
   st : Step m w j (rows_in m) (used_in m + length t)
@@ -71,7 +71,7 @@ module _ (m : List ℕ) (so : Sound m) (l : ℕ) (k : List ℕ) (c : Content) (s
   value-text : text_in w (used_in m) (length t) ≡ t
   value-text =
       let e : used_in m + 0 ≡ used_in m = omega arith in
-      ap (λ y. portion w (y + used_in m) (length t)) (offset_step m w _ _ _ so st) ∙ ap (λ y. portion w (offset_in m + y) (length t)) (sym e) ∙ is-text m so j (rows_in m) x t ok 0 (length t) (omega arith) ∙ portion-whole t
+      ap (λ y. portion w (y + used_in m) (length t)) (offset_step m w _ _ _ so st) ∙ ap (λ y. portion w (offset_in m + y) (length t)) (sym e) ∙ text_stands m so j (rows_in m) x t ok 0 (length t) (omega arith) ∙ portion-whole t
 
   key-text : key_in w x ≡ key_in m q
   key-text = text-step m w _ _ _ so st q.key_place q.key_length was.key.inside
@@ -81,8 +81,8 @@ module _ (m : List ℕ) (so : Sound m) (l : ℕ) (k : List ℕ) (c : Content) (s
       let kt = key-text ∙ key-was in
       ap (fact_at w) raw ∙ (λ i. record { list = list-was i; key = kt i; kind = c.kind; value = value-text i; time = c.time })
 
-  pub replaced-rows : row_facts w ≡ put l k c (row_facts m)
-  replaced-rows = rows-replace m w j _ so st here ∙ ap (set (row_facts m) j) fact ∙ sym (rw none at place.put_is)
+  pub replaced_rows : row_facts w ≡ put l k c (row_facts m)
+  replaced_rows = rows_replace m w j _ so st here ∙ ap (set (row_facts m) j) fact ∙ sym (rw none at place.put_is)
 
   ids : j < rows_in m → (list_in w j ≡ list_in m j) × (key_in w (row_at w (row_place j)) ≡ key_in m (row_at m (row_place j)))
   ids h = (ap (λ (y : Row). y.list) raw, ap (key_in w) raw ∙ key-text)
@@ -91,10 +91,10 @@ module _ (m : List ℕ) (so : Sound m) (l : ℕ) (k : List ℕ) (c : Content) (s
   lawful =
       record {
         list = was.list;
-        event-above = λ e. let s = was.event-above e in let lt = s.1 in (s.0, s.1, list-step m w _ _ _ so st ids s.0 (omega (arith, here)) ∙ s.2);
-        link-above = λ e. let s = was.link-above e in let lt = s.1 in (s.0, s.1, list-step m w _ _ _ so st ids s.0 (omega (arith, here)) ∙ s.2);
+        event_above = λ e. let s = was.event_above e in let lt = s.1 in (s.0, s.1, list-step m w _ _ _ so st ids s.0 (omega (arith, here)) ∙ s.2);
+        link_above = λ e. let s = was.link_above e in let lt = s.1 in (s.0, s.1, list-step m w _ _ _ so st ids s.0 (omega (arith, here)) ∙ s.2);
         few = omega (arith, above_step m w _ _ _ so st ids q.list j (omega (arith, here)), was.few);
-        least-key = was.least-key;
+        long_enough = was.long_enough;
         key = text-lawful-step m w _ _ _ so st _ _ _ was.key;
         event = λ e. absurd (n3 (sym list-was ∙ e));
         link = λ e. absurd (n5 (sym list-was ∙ e));
@@ -103,14 +103,14 @@ module _ (m : List ℕ) (so : Sound m) (l : ℕ) (k : List ℕ) (c : Content) (s
             was.once e i lt (sym (list-step m w _ _ _ so st ids i (omega (arith, here))) ∙ li) (sym (key_step m w _ _ _ so st ids i (omega (arith, here))) ∙ ke ∙ key-text);
       }
 
-  pub replaced-sound : Sound w
-  replaced-sound =
+  pub replaced_sound : Sound w
+  replaced_sound =
       sound-step m w _ _ _ so st ids
-      (bytes-written _ _ _ (bytes-written _ _ _ (bytes-written _ _ _ (bytes-written m (row_place j) (row_bytes x) so.bytes (bytes-row x (omega (arith, was.list)) sa.kind-byte)) sa.value-bytes) (bytes-two _)) (bytes-four _))
-      (omega (arith, byte-kept m w _ _ (rowed-fixed m so j (rows_in m) x t ok) 11 (omega arith) (omega arith), so.status))
+      (bytes-written _ _ _ (bytes-written _ _ _ (bytes-written _ _ _ (bytes-written m (row_place j) (row_bytes x) so.bytes (bytes-row x (omega (arith, was.list)) sa.kind_byte)) sa.value_bytes) (bytes-two _)) (bytes-four _))
+      (omega (arith, byte_kept m w _ _ (rowed-fixed m so j (rows_in m) x t ok) 11 (omega arith) (omega arith), so.status))
       (λ h hd. head-lawful m w _ _ _ so st h hd (narrow m w _ _ _ _ (rowed-front m so j (rows_in m) x t ok) (omega (arith, hd.0)) (omega (arith, hd.1.0))))
       (λ lt. subst (λ (y : Row). RowLawful w j y.list y) (sym raw) lawful)
 
-  pub replaced-facts : facts w ≡ changed (facts m) (outcome_of (facts m)) (facts m).name (put l k c (row_facts m))
-  replaced-facts =
-      rows-facts m w _ _ _ so st (rowed-fixed m so j (rows_in m) x t ok) (narrow m w _ _ _ _ (rowed-front m so j (rows_in m) x t ok) (omega arith) (omega arith)) _ replaced-rows
+  pub replaced_facts : facts w ≡ changed (facts m) (outcome_of (facts m)) (facts m).name (put l k c (row_facts m))
+  replaced_facts =
+      rows-facts m w _ _ _ so st (rowed-fixed m so j (rows_in m) x t ok) (narrow m w _ _ _ _ (rowed-front m so j (rows_in m) x t ok) (omega arith) (omega arith)) _ replaced_rows

@@ -6,7 +6,7 @@ use Rattle.lent_bytes.specs.Fields.{u16_in, u32_in, i64_in, bytes2, bytes4}
 use Rattle.lent_bytes.proofs.Frames.{length-written, le2-bytes2, le4-bytes4, int8-ints8}
 use Rattle.blocks.specs.Layout.{rows_in, offset_in, capacity_in, used_in, row_place, Row, row_at}
 use Rattle.drafts.specs.Writes.{row_bytes, rowed}
-use Rattle.block_laws.proofs.Kept.{Kept, byte-kept, u16-kept, u32-kept, i64-kept, portion-place, byte-place, u16-place, u32-place, i64-place, behind, ahead, then, narrow}
+use Rattle.block_laws.proofs.Kept.{Kept, byte_kept, u16_kept, u32_kept, i64_kept, portion-place, byte_place, u16_place, u32_place, i64_place, behind, ahead, then, narrow}
 use Rattle.block_laws.proofs.Sound.{Sound, Step}
 
 -- the numbers of a row's bytes
@@ -95,8 +95,8 @@ module _ (m : List ℕ) (so : Sound m) (j n : ℕ) (x : Row) (t : List ℕ) (ok 
   pub rowed-front : Kept m w4 16 (row_place j)
   rowed-front = then m w3 w4 _ _ (then m w2 w3 _ _ (then m w1 w2 _ _ (behind m _ _ _ _ (omega arith)) (behind w1 _ _ _ _ (omega (arith, low)))) (ahead w2 _ _ _ _ (omega arith))) (ahead w3 _ _ _ _ (omega arith))
 
-  pub rowed-upper : Kept m w4 (row_place j + 24) at
-  rowed-upper = then m w3 w4 _ _ (then m w2 w3 _ _ (then m w1 w2 _ _ (ahead m _ _ _ _ (omega arith)) (behind w1 _ _ _ _ (omega arith))) (ahead w2 _ _ _ _ (omega arith))) (ahead w3 _ _ _ _ (omega arith))
+  pub rowed_upper : Kept m w4 (row_place j + 24) at
+  rowed_upper = then m w3 w4 _ _ (then m w2 w3 _ _ (then m w1 w2 _ _ (ahead m _ _ _ _ (omega arith)) (behind w1 _ _ _ _ (omega arith))) (ahead w2 _ _ _ _ (omega arith))) (ahead w3 _ _ _ _ (omega arith))
 
   row : Kept w1 w4 (row_place j) (row_place j + 24)
   row = then w1 w3 w4 _ _ (then w1 w2 w3 _ _ (behind w1 _ _ _ _ low) (ahead w2 _ _ _ _ (omega arith))) (ahead w3 _ _ _ _ (omega arith))
@@ -123,18 +123,18 @@ module _ (m : List ℕ) (so : Sound m) (j n : ℕ) (x : Row) (t : List ℕ) (ok 
   pub is_row : row_at w4 (row_place j) ≡ x
   is_row =
       let p : ℕ = row_place j in
-      let a = byte-kept w1 w4 _ _ row p (omega arith) (omega arith) ∙ byte-place m p (row_bytes x) p 0 (omega arith) whole (omega arith) ∙ row_list x in
-      let b = byte-kept w1 w4 _ _ row (p + 1) (omega arith) (omega arith) ∙ byte-place m p (row_bytes x) (p + 1) 1 refl whole (omega arith) ∙ row-kind x in
-      let c = u16-kept w1 w4 _ _ row (p + 2) (omega arith) (omega arith) ∙ u16-place m p (row_bytes x) (p + 2) 2 refl whole (omega arith) ∙ row-key-length x ok.short in
-      let d = u32-kept w1 w4 _ _ row (p + 4) (omega arith) (omega arith) ∙ u32-place m p (row_bytes x) (p + 4) 4 refl whole (omega arith) ∙ row-key-place x (omega (arith, ok.key, wide)) in
-      let e = u32-kept w1 w4 _ _ row (p + 8) (omega arith) (omega arith) ∙ u32-place m p (row_bytes x) (p + 8) 8 refl whole (omega arith) ∙ row-value-length x (omega (arith, ok.value, wide)) in
-      let f = u32-kept w1 w4 _ _ row (p + 12) (omega arith) (omega arith) ∙ u32-place m p (row_bytes x) (p + 12) 12 refl whole (omega arith) ∙ row-value-place x (omega (arith, ok.value, wide)) in
-      let g = i64-kept w1 w4 _ _ row (p + 16) (omega arith) (omega arith) ∙ i64-place m p (row_bytes x) (p + 16) 16 refl whole (omega arith) ∙ row-time x ok.time in
+      let a = byte_kept w1 w4 _ _ row p (omega arith) (omega arith) ∙ byte_place m p (row_bytes x) p 0 (omega arith) whole (omega arith) ∙ row_list x in
+      let b = byte_kept w1 w4 _ _ row (p + 1) (omega arith) (omega arith) ∙ byte_place m p (row_bytes x) (p + 1) 1 refl whole (omega arith) ∙ row-kind x in
+      let c = u16_kept w1 w4 _ _ row (p + 2) (omega arith) (omega arith) ∙ u16_place m p (row_bytes x) (p + 2) 2 refl whole (omega arith) ∙ row-key-length x ok.short in
+      let d = u32_kept w1 w4 _ _ row (p + 4) (omega arith) (omega arith) ∙ u32_place m p (row_bytes x) (p + 4) 4 refl whole (omega arith) ∙ row-key-place x (omega (arith, ok.key, wide)) in
+      let e = u32_kept w1 w4 _ _ row (p + 8) (omega arith) (omega arith) ∙ u32_place m p (row_bytes x) (p + 8) 8 refl whole (omega arith) ∙ row-value-length x (omega (arith, ok.value, wide)) in
+      let f = u32_kept w1 w4 _ _ row (p + 12) (omega arith) (omega arith) ∙ u32_place m p (row_bytes x) (p + 12) 12 refl whole (omega arith) ∙ row-value-place x (omega (arith, ok.value, wide)) in
+      let g = i64_kept w1 w4 _ _ row (p + 16) (omega arith) (omega arith) ∙ i64_place m p (row_bytes x) (p + 16) 16 refl whole (omega arith) ∙ row-time x ok.time in
       λ i. record { list = a i; kind = b i; key_length = c i; key_place = d i; value_length = e i; value_place = f i; time = g i }
 
   -- a part of the new text
-  pub is-text : (o k : ℕ) → o + k ≤ length t → portion w4 (offset_in m + (used_in m + o)) k ≡ portion t o k
-  is-text o k h = new (offset_in m + (used_in m + o) + k) _ _ (omega (arith, low)) (omega arith) ∙ portion-place w1 at t _ o (omega arith) (omega (arith, s1, ok.room)) k h
+  pub text_stands : (o k : ℕ) → o + k ≤ length t → portion w4 (offset_in m + (used_in m + o)) k ≡ portion t o k
+  text_stands o k h = new (offset_in m + (used_in m + o) + k) _ _ (omega (arith, low)) (omega arith) ∙ portion-place w1 at t _ o (omega arith) (omega (arith, s1, ok.room)) k h
 
   pub rowed-step : Step m w4 j n (used_in m + length t)
   rowed-step =
@@ -143,8 +143,8 @@ module _ (m : List ℕ) (so : Sound m) (j n : ℕ) (x : Row) (t : List ℕ) (ok 
         version = rowed-start;
         fixed = narrow m w4 _ _ _ _ rowed-fixed (omega arith) (omega arith);
         zeros = narrow m w4 _ _ _ _ rowed-front (omega arith) (omega arith);
-        count = u16-kept w3 w4 0 12 (behind w3 _ _ _ _ (omega arith)) 2 (omega arith) (omega arith) ∙ u16-place w2 2 (bytes2 n) 2 0 (omega arith) (omega (arith, s2, whole)) (omega arith) ∙ two n (omega (arith, so.capacity, ok.most));
-        used = u32-place w3 12 (bytes4 (used_in m + length t)) 12 0 (omega arith) (omega (arith, s3, whole)) (omega arith) ∙ four _ wide;
+        count = u16_kept w3 w4 0 12 (behind w3 _ _ _ _ (omega arith)) 2 (omega arith) (omega arith) ∙ u16_place w2 2 (bytes2 n) 2 0 (omega arith) (omega (arith, s2, whole)) (omega arith) ∙ two n (omega (arith, so.capacity, ok.most));
+        used = u32_place w3 12 (bytes4 (used_in m + length t)) 12 0 (omega arith) (omega (arith, s3, whole)) (omega arith) ∙ four _ wide;
         grows = omega arith;
         most = ok.most;
         fit = ok.room;
@@ -152,7 +152,7 @@ module _ (m : List ℕ) (so : Sound m) (j n : ℕ) (x : Row) (t : List ℕ) (ok 
         others = λ i h ne.
             ⊎_elim
             (λ (lt : i < j). narrow m w4 _ _ _ _ rowed-front (omega arith) (omega arith))
-            (λ (ge : j ≤ i). let z : j < i = grind arith in narrow m w4 _ _ _ _ rowed-upper (omega arith) (omega (arith, so.rows, so.offset)))
+            (λ (ge : j ≤ i). let z : j < i = grind arith in narrow m w4 _ _ _ _ rowed_upper (omega arith) (omega (arith, so.rows, so.offset)))
             (cases_lt i j);
-        texts = narrow m w4 _ _ _ _ rowed-upper (omega (arith, ok.inside, so.offset)) (omega arith);
+        texts = narrow m w4 _ _ _ _ rowed_upper (omega (arith, ok.inside, so.offset)) (omega arith);
       }

@@ -13,11 +13,11 @@ use Rattle.blocks.specs.Lawful.{ValueLawful, RowLawful}
 use Rattle.drafts.specs.Held.{Content}
 use Rattle.drafts.specs.Search.{hit, place_from}
 use Rattle.drafts.specs.Writes.{row_bytes, rowed, new_row}
-use Rattle.block_laws.proofs.Kept.{Kept, byte-kept, narrow, portion-first, portion-second, portion-none}
-use Rattle.block_laws.proofs.Sound.{Sound, Step, Head, head-80, head-88, head-96, head-104, head-112, offset_step, kind-step, list-step, key_step, above_step, sound-step}
+use Rattle.block_laws.proofs.Kept.{Kept, byte_kept, narrow, portion_first, portion_second, portion-none}
+use Rattle.block_laws.proofs.Sound.{Sound, Step, Head, head_80, head_88, head_96, head_104, head_112, offset_step, kind-step, list-step, key_step, above_step, sound-step}
 use Rattle.block_laws.proofs.Listed.{length-rows, get_or-rows, rows_append}
-use Rattle.draft_law.proofs.Rowed.{Fit, rowed-fixed, rowed-front, rowed-step, is_row, is-text}
-use Rattle.draft_law.proofs.Octets.{bytes-append, bytes-written, bytes-two, bytes-four, bytes-row}
+use Rattle.draft_law.proofs.Rowed.{Fit, rowed-fixed, rowed-front, rowed-step, is_row, text_stands}
+use Rattle.draft_law.proofs.Octets.{bytes_append, bytes-written, bytes-two, bytes-four, bytes-row}
 use Rattle.draft_law.proofs.Tagged.{row_from, none-hit}
 use Rattle.draft_law.proofs.Told.{outcome_of, changed, head-kept, head-lawful, facts-step}
 
@@ -27,18 +27,18 @@ pub record Said (l : ℕ) (k : List ℕ) (c : Content) : Type 0 where
   pub least : least_key l ≤ length k
   pub most : length k ≤ longest_key l
   pub utf8 : IsUtf8 k
-  pub key-bytes : Bytes k
-  pub value-bytes : Bytes c.value
-  pub kind-byte : c.kind < 256
-  pub time-fits : SFits w64 c.time
+  pub key_bytes : Bytes k
+  pub value_bytes : Bytes c.value
+  pub kind_byte : c.kind < 256
+  pub time_fits : SFits w64 c.time
   pub event : l ≡ 3 → (c.kind ≡ 0) × (c.value ≡ [])
   pub link : l ≡ 5 → (c.kind ≡ 0) × ((c.time ≡ pos 0) × (length c.value ≡ 25))
   pub attribute : (l ≡ 3 → ⊥) → (l ≡ 5 → ⊥) → (c.time ≡ pos 0) × ValueLawful c.kind c.value
 
 -- there is room for one row more
 pub record Room (m : List ℕ) (l : ℕ) (k : List ℕ) (c : Content) : Type 0 where
-  pub event-above : l ≡ 4 → (j : ℕ) × (j < rows_in m) × (list_in m j ≡ 3)
-  pub link-above : l ≡ 6 → (j : ℕ) × (j < rows_in m) × (list_in m j ≡ 5)
+  pub event_above : l ≡ 4 → (j : ℕ) × (j < rows_in m) × (list_in m j ≡ 3)
+  pub link_above : l ≡ 6 → (j : ℕ) × (j < rows_in m) × (list_in m j ≡ 5)
   pub few : above m l (rows_in m) < 128
   pub free : rows_in m < capacity_in m
   pub fits : offset_in m + (used_in m + (length k + length c.value)) ≤ length m
@@ -47,8 +47,8 @@ pub record Room (m : List ℕ) (l : ℕ) (k : List ℕ) (c : Content) : Type 0 w
 pub longest-key : (l : ℕ) → longest_key l ≤ 512
 longest-key l = grind (arith, nat_tests)
 
-value-ends : (l u a b : ℕ) → cond (eqb l 3) 0 (u + a) + b ≤ u + (a + b)
-value-ends l u a b = grind (arith, nat_tests)
+value_ends : (l u a b : ℕ) → cond (eqb l 3) 0 (u + a) + b ≤ u + (a + b)
+value_ends l u a b = grind (arith, nat_tests)
 
 -- what the facts are when rows alone change
 pub rows-facts : (m m' : List ℕ) (j n u : ℕ) (so : Sound m) (st : Step m m' j n u) → Kept m m' 4 12 → Kept m m' 16 120 → (rs : List RowFact) → row_facts m' ≡ rs
@@ -56,12 +56,12 @@ pub rows-facts : (m m' : List ℕ) (j n u : ℕ) (so : Sound m) (st : Step m m' 
 rows-facts m m' j n u so st a b rs e =
     let k : (h : ℕ) → Head h → Kept m m' h (h + 8) = λ h hd. narrow m m' _ _ _ _ b (omega (arith, hd.0)) (omega (arith, hd.1.0)) in
     facts-step m m' (narrow m m' _ _ _ _ b (omega arith) (omega arith)) (kind-step m m' j n u so st)
-    (outcome_of (facts m)) (ap status_of (byte-kept m m' _ _ a 11 (omega arith) (omega arith)))
-    (head-kept m m' j n u so st 112 head-112 (k 112 head-112))
-    (facts m).name (head-kept m m' j n u so st 80 head-80 (k 80 head-80))
-    (head-kept m m' j n u so st 88 head-88 (k 88 head-88))
-    (head-kept m m' j n u so st 96 head-96 (k 96 head-96))
-    (head-kept m m' j n u so st 104 head-104 (k 104 head-104))
+    (outcome_of (facts m)) (ap status_of (byte_kept m m' _ _ a 11 (omega arith) (omega arith)))
+    (head-kept m m' j n u so st 112 head_112 (k 112 head_112))
+    (facts m).name (head-kept m m' j n u so st 80 head_80 (k 80 head_80))
+    (head-kept m m' j n u so st 88 head_88 (k 88 head_88))
+    (head-kept m m' j n u so st 96 head_96 (k 96 head_96))
+    (head-kept m m' j n u so st 104 head_104 (k 104 head_104))
     rs e
 
 -- one row more
@@ -90,8 +90,8 @@ module _ (m : List ℕ) (so : Sound m) (l : ℕ) (k : List ℕ) (c : Content) (s
         room = omega (arith, ro.fits, both);
         short = omega (arith, sa.most, longest-key l);
         key = omega (arith, both);
-        value = omega (arith, both, value-ends l (used_in m) (length k) (length c.value));
-        time = sa.time-fits;
+        value = omega (arith, both, value_ends l (used_in m) (length k) (length c.value));
+        time = sa.time_fits;
       }
 
   st : Step m w r (r + 1) (used_in m + length t)
@@ -102,32 +102,32 @@ module _ (m : List ℕ) (so : Sound m) (l : ℕ) (k : List ℕ) (c : Content) (s
 
   -- a part of the new text, by its place
   new-text : (o n : ℕ) → o + n ≤ length t → text_in w (used_in m + o) n ≡ portion t o n
-  new-text o n h = ap (λ y. portion w (y + (used_in m + o)) n) (offset_step m w _ _ _ so st) ∙ is-text m so r (r + 1) x t ok o n h
+  new-text o n h = ap (λ y. portion w (y + (used_in m + o)) n) (offset_step m w _ _ _ so st) ∙ text_stands m so r (r + 1) x t ok o n h
 
   key-text : text_in w (used_in m) (length k) ≡ k
   key-text =
       let e : used_in m + 0 ≡ used_in m = omega arith in
-      ap (λ y. text_in w y (length k)) (sym e) ∙ new-text 0 (length k) (omega (arith, both)) ∙ portion-first k c.value
+      ap (λ y. text_in w y (length k)) (sym e) ∙ new-text 0 (length k) (omega (arith, both)) ∙ portion_first k c.value
 
   value-text : text_in w x.value_place (length c.value) ≡ c.value
   value-text =
       ⊎_elim
       (λ (e : l ≡ 3). let v = (sa.event e).1 in ap (λ y. text_in w x.value_place (length y)) v ∙ portion-none w _ ∙ sym v)
       (λ (ne : l ≡ 3 → ⊥). let p = cond-false (eqb l 3) 0 (used_in m + length k) (ne_eqb l 3 ne) in
-      ap (λ y. text_in w y (length c.value)) p ∙ new-text (length k) (length c.value) (omega (arith, both)) ∙ portion-second k c.value)
+      ap (λ y. text_in w y (length c.value)) p ∙ new-text (length k) (length c.value) (omega (arith, both)) ∙ portion_second k c.value)
       (cases_eq l 3)
 
   fact : row_fact w r ≡ row_from l k c
   fact = ap (fact_at w) raw ∙ (λ i. record { list = l; key = key-text i; kind = c.kind; value = value-text i; time = c.time })
 
-  pub appended-rows : row_facts w ≡ row_facts m ++ row_from l k c ∷ []
-  appended-rows = rows_append m w _ so st ∙ ap (λ f. row_facts m ++ f ∷ []) fact
+  pub appended_rows : row_facts w ≡ row_facts m ++ row_from l k c ∷ []
+  appended_rows = rows_append m w _ so st ∙ ap (λ f. row_facts m ++ f ∷ []) fact
 
   ids : r < rows_in m → (list_in w r ≡ list_in m r) × (key_in w (row_at w (row_place r)) ≡ key_in m (row_at m (row_place r)))
   ids h = absurd (omega arith)
 
   inside : x.value_place + x.value_length ≤ used_in w
-  inside = omega (arith, both, value-ends l (used_in m) (length k) (length c.value), st.used)
+  inside = omega (arith, both, value_ends l (used_in m) (length k) (length c.value), st.used)
 
   -- a resource key that is new stands nowhere above
   once : l ≡ 1 → (j : ℕ) → j < r → list_in w j ≡ 1 → key_in w (row_at w (row_place j)) ≡ key_in w x → ⊥
@@ -144,10 +144,10 @@ module _ (m : List ℕ) (so : Sound m) (l : ℕ) (k : List ℕ) (c : Content) (s
   lawful =
       record {
         list = sa.list;
-        event-above = λ e. let s = ro.event-above e in (s.0, s.1, list-step m w _ _ _ so st ids s.0 s.1 ∙ s.2);
-        link-above = λ e. let s = ro.link-above e in (s.0, s.1, list-step m w _ _ _ so st ids s.0 s.1 ∙ s.2);
+        event_above = λ e. let s = ro.event_above e in (s.0, s.1, list-step m w _ _ _ so st ids s.0 s.1 ∙ s.2);
+        link_above = λ e. let s = ro.link_above e in (s.0, s.1, list-step m w _ _ _ so st ids s.0 s.1 ∙ s.2);
         few = omega (arith, above_step m w _ _ _ so st ids l r (omega arith), ro.few);
-        least-key = sa.least;
+        long_enough = sa.least;
         key = record { short = sa.most; inside = omega (arith, both, st.used); utf8 = subst IsUtf8 (sym key-text) sa.utf8 };
         event = λ e. record { kind = (sa.event e).0; length = ap length (sa.event e).1; place = cond-true (eqb l 3) 0 _ (eq-eqb l 3 e) };
         link = λ e. record { kind = (sa.link e).0; time = (sa.link e).1.0; length = (sa.link e).1.1; inside = inside };
@@ -155,15 +155,15 @@ module _ (m : List ℕ) (so : Sound m) (l : ℕ) (k : List ℕ) (c : Content) (s
         once = once;
       }
 
-  pub appended-sound : Sound w
-  appended-sound =
+  pub appended_sound : Sound w
+  appended_sound =
       let fr = rowed-front m so r (r + 1) x t ok in
       sound-step m w _ _ _ so st ids
-      (bytes-written _ _ _ (bytes-written _ _ _ (bytes-written _ _ _ (bytes-written m (row_place r) (row_bytes x) so.bytes (bytes-row x (omega (arith, sa.list)) sa.kind-byte)) (bytes-append k c.value sa.key-bytes sa.value-bytes)) (bytes-two _)) (bytes-four _))
-      (omega (arith, byte-kept m w _ _ (rowed-fixed m so r (r + 1) x t ok) 11 (omega arith) (omega arith), so.status))
+      (bytes-written _ _ _ (bytes-written _ _ _ (bytes-written _ _ _ (bytes-written m (row_place r) (row_bytes x) so.bytes (bytes-row x (omega (arith, sa.list)) sa.kind_byte)) (bytes_append k c.value sa.key_bytes sa.value_bytes)) (bytes-two _)) (bytes-four _))
+      (omega (arith, byte_kept m w _ _ (rowed-fixed m so r (r + 1) x t ok) 11 (omega arith) (omega arith), so.status))
       (λ h hd. head-lawful m w _ _ _ so st h hd (narrow m w _ _ _ _ fr (omega (arith, hd.0)) (omega (arith, hd.1.0))))
       (λ lt. subst (λ (y : Row). RowLawful w r y.list y) (sym raw) lawful)
 
-  pub appended-facts : (rs : List RowFact) → rs ≡ row_facts m ++ row_from l k c ∷ [] → facts w ≡ changed (facts m) (outcome_of (facts m)) (facts m).name rs
-  appended-facts rs e =
-      rows-facts m w _ _ _ so st (rowed-fixed m so r (r + 1) x t ok) (narrow m w _ _ _ _ (rowed-front m so r (r + 1) x t ok) (omega arith) (omega arith)) rs (appended-rows ∙ sym e)
+  pub appended_facts : (rs : List RowFact) → rs ≡ row_facts m ++ row_from l k c ∷ [] → facts w ≡ changed (facts m) (outcome_of (facts m)) (facts m).name rs
+  appended_facts rs e =
+      rows-facts m w _ _ _ so st (rowed-fixed m so r (r + 1) x t ok) (narrow m w _ _ _ _ (rowed-front m so r (r + 1) x t ok) (omega arith) (omega arith)) rs (appended_rows ∙ sym e)

@@ -9,8 +9,8 @@ use Rattle.drafts.specs.Held.{Content, Id, same_id, id_of, row_of, owning}
 use Rattle.blocks.specs.Facts.{RowFact}
 use Rattle.drafts.specs.Search.{row_is_in, count, ownerless, hit, place_from}
 
-pub same_id-decides : (a b : Id) → Decides (same_id a b) (a ≡ b)
-same_id-decides a b = (
+pub same_id_decides : (a b : Id) → Decides (same_id a b) (a ≡ b)
+same_id_decides a b = (
   λ t. let p = and_parts (eqb a.list b.list) _ t in
       let q = and_parts (bytes_eq a.key b.key) _ p.1 in
       let x = eqb-true a.list b.list p.0 in
@@ -42,8 +42,8 @@ untagged e f [] = refl
 untagged e f (r ∷ rs) = ap (λ l. r ∷ l) (untagged (e + row_is_in 3 r) (f + row_is_in 5 r) rs)
 
 -- what a hit tells
-hit-tells : (l : ℕ) (k : List ℕ) (r : RowFact) (rs : List RowFact) → hit l k r rs ≡ true → (r.list ≡ l) × (r.key ≡ k) × (ownerless l (r ∷ rs) ≡ true)
-hit-tells l k r rs t =
+hit_tells : (l : ℕ) (k : List ℕ) (r : RowFact) (rs : List RowFact) → hit l k r rs ≡ true → (r.list ≡ l) × (r.key ≡ k) × (ownerless l (r ∷ rs) ≡ true)
+hit_tells l k r rs t =
     let p = and_parts (eqb r.list l) _ t in
     let q = and_parts (bytes_eq r.key k) _ p.1 in
     (eqb-true _ _ p.0, (bytes_eq-Decides r.key k).0 q.0, q.1)
@@ -74,7 +74,7 @@ tagged-put l k v e f [] = let g : e + 0 ≡ e = omega arith in let h : f + 0 ≡
 tagged-put l k v e f (r ∷ rs) =
     ⊎_elim
     (λ t. let s = sym (hit_same l k e f r rs) ∙ t in
-    let p = hit-tells l k r rs t in
+    let p = hit_tells l k r rs t in
     let a = p.0 in
     let o = same-owner l k e f (count 3 (r ∷ rs)) (count 5 (r ∷ rs)) p.2 in
     ap (tagged e f) (cond-true (hit l k r rs) _ _ t) ∙ ap (λ z. (z, v) ∷ tagged (e + cond (eqb l 3) 1 0) (f + cond (eqb l 5) 1 0) rs) o ∙ ap (λ z. (id_of l k (e + count 3 (r ∷ rs)) (f + count 5 (r ∷ rs)), v) ∷ tagged (e + cond (eqb z 3) 1 0) (f + cond (eqb z 5) 1 0) rs) (sym a) ∙ sym (cond-true _ _ _ s))
@@ -88,14 +88,14 @@ tagged-put l k v e f (r ∷ rs) =
 
 -- a head, 3 or 5, is never hit
 never : (l : ℕ) (k : List ℕ) (r : RowFact) (rs : List RowFact) → (l ≡ 3) ⊎ (l ≡ 5) → hit l k r rs ≡ true → ⊥
-never l k r rs (inl z) t = let p = hit-tells l k r rs t in let a = p.0 in let o : ownerless 3 (r ∷ rs) ≡ true = rw z at p.2 in let q = eqb-true (count 3 (r ∷ rs)) 0 o in let w : row_is_in 3 r ≡ 1 = rw (a ∙ z) in omega arith
-never l k r rs (inr z) t = let p = hit-tells l k r rs t in let a = p.0 in let o : ownerless 5 (r ∷ rs) ≡ true = rw z at p.2 in let q = eqb-true (count 5 (r ∷ rs)) 0 o in let w : row_is_in 5 r ≡ 1 = rw (a ∙ z) in omega arith
+never l k r rs (inl z) t = let p = hit_tells l k r rs t in let a = p.0 in let o : ownerless 3 (r ∷ rs) ≡ true = rw z at p.2 in let q = eqb-true (count 3 (r ∷ rs)) 0 o in let w : row_is_in 3 r ≡ 1 = rw (a ∙ z) in omega arith
+never l k r rs (inr z) t = let p = hit_tells l k r rs t in let a = p.0 in let o : ownerless 5 (r ∷ rs) ≡ true = rw z at p.2 in let q = eqb-true (count 5 (r ∷ rs)) 0 o in let w : row_is_in 5 r ≡ 1 = rw (a ∙ z) in omega arith
 
 pub count-put : (h : ℕ) → (h ≡ 3) ⊎ (h ≡ 5) → (l : ℕ) (k : List ℕ) (v : Content) (rs : List RowFact) → count h (put l k v rs) ≡ count h rs + cond (eqb l h) 1 0
 count-put h is l k v [] = omega arith
 count-put h is l k v (r ∷ rs) =
     ⊎_elim
-    (λ t. let a = (hit-tells l k r rs t).0 in
+    (λ t. let a = (hit_tells l k r rs t).0 in
     let ne : eqb l h ≡ false = ne_eqb l h (λ e. never l k r rs (⊎_elim (λ x. inl (e ∙ x)) (λ x. inr (e ∙ x)) is) t) in
     let b : row_is_in h r ≡ 0 = rw (a, ne) in
     ap (count h) (cond-true (hit l k r rs) _ _ t) ∙ omega (arith, ap (λ z. cond {A = ℕ} z 1 0) ne))
@@ -124,21 +124,21 @@ pub record Placed (l : ℕ) (k : List ℕ) (v : Content) (i j : ℕ) (rs : List 
   pub low : i ≤ j
   pub high : j < i + length rs
   pub put_is : put l k v rs ≡ set rs (j - i) (row_from l k v)
-  pub list-is : (d : RowFact) → (get_or rs (j - i) d).list ≡ l
-  pub key-is : (d : RowFact) → (get_or rs (j - i) d).key ≡ k
+  pub list_is : (d : RowFact) → (get_or rs (j - i) d).list ≡ l
+  pub key_is : (d : RowFact) → (get_or rs (j - i) d).key ≡ k
 
 pub put_some : (l : ℕ) (k : List ℕ) (v : Content) (i j : ℕ) (rs : List RowFact) → place_from l k i rs ≡ Some j → Placed l k v i j rs
 put_some l k v i j [] h = let z : ◌≡◌ {A = ℕ} 0 1 = cc in absurd (omega arith)
 put_some l k v i j (r ∷ rs) h =
     ⊎_elim
-    (λ t. let p = hit-tells l k r rs t in
+    (λ t. let p = hit_tells l k r rs t in
     let x : Some i ≡ Some j = rw t at h in
     let e : i ≡ j = cc in
     let z : j - i ≡ 0 = omega arith in
-    record { low = omega arith; high = omega arith; put_is = rw (t, z); list-is = λ d. rw z p.0; key-is = λ d. rw z p.1 })
+    record { low = omega arith; high = omega arith; put_is = rw (t, z); list_is = λ d. rw z p.0; key_is = λ d. rw z p.1 })
     (λ n. let ih = put_some l k v (i + 1) j rs (rw n at h) in
     let z : j - i ≡ suc (j - (i + 1)) = omega (arith, ih.low) in
-    record { low = omega (arith, ih.low); high = omega (arith, ih.high); put_is = cond-false (hit l k r rs) _ _ n ∙ rw z (ap (λ l. r ∷ l) ih.put_is); list-is = λ d. rw z (ih.list-is d); key-is = λ d. rw z (ih.key-is d) })
+    record { low = omega (arith, ih.low); high = omega (arith, ih.high); put_is = cond-false (hit l k r rs) _ _ n ∙ rw z (ap (λ l. r ∷ l) ih.put_is); list_is = λ d. rw z (ih.list_is d); key_is = λ d. rw z (ih.key_is d) })
     (cases_Bool (hit l k r rs))
 
 -- where none was found, none is hit

@@ -4,7 +4,7 @@ use Rattle.blocks.specs.Layout.{kind_in, status_in, text_in, place_in, length_in
 use Rattle.blocks.specs.Facts.{Facts, RowFact, facts, header_text, row_facts, span_kind_of, status_of}
 use Rattle.blocks.specs.Lawful.{TextLawful}
 use Rattle.drafts.specs.Held.{Outcome}
-use Rattle.block_laws.proofs.Kept.{Kept, u32-kept, i64-kept, id-kept}
+use Rattle.block_laws.proofs.Kept.{Kept, u32_kept, i64_kept, id_kept}
 use Rattle.block_laws.proofs.Sound.{Sound, Step, Head, longest, text-step, text-lawful-step}
 
 abbrev pub outcome_of : Facts → Outcome
@@ -32,10 +32,10 @@ changed f o n rs =
 
 module _ (m m' : List ℕ) (j n u : ℕ) (so : Sound m) (st : Step m m' j n u) (h : ℕ) (hd : Head h) (k : Kept m m' h (h + 8)) where
   same_place : place_in m' h ≡ place_in m h
-  same_place = u32-kept m m' _ _ k h (omega arith) (omega arith)
+  same_place = u32_kept m m' _ _ k h (omega arith) (omega arith)
 
   same_length : length_in m' h ≡ length_in m h
-  same_length = u32-kept m m' _ _ k (h + 4) (omega arith) (omega arith)
+  same_length = u32_kept m m' _ _ k (h + 4) (omega arith) (omega arith)
 
   pub head-kept : header_text m' h ≡ header_text m h
   head-kept = (λ x. text_in m' (same_place x) (same_length x)) ∙ text-step m m' j n u so st (place_in m h) (length_in m h) (so.heads h hd).inside
@@ -51,12 +51,12 @@ pub facts-step : (m m' : List ℕ) → Kept m m' 16 64 → kind_in m' ≡ kind_i
     → (t : List ℕ) → header_text m' 80 ≡ t → header_text m' 88 ≡ header_text m 88 → header_text m' 96 ≡ header_text m 96 → header_text m' 104 ≡ header_text m 104
     → (rs : List RowFact) → row_facts m' ≡ rs → facts m' ≡ changed (facts m) o t rs
 facts-step m m' k e o s d t na ts sn sv rs r =
-    let a = id-kept m m' _ _ k 16 (omega arith) (omega arith) in
-    let b = id-kept m m' _ _ k 24 (omega arith) (omega arith) in
-    let c = id-kept m m' _ _ k 32 (omega arith) (omega arith) in
-    let f = id-kept m m' _ _ k 40 (omega arith) (omega arith) in
-    let g = i64-kept m m' _ _ k 48 (omega arith) (omega arith) in
-    let h = i64-kept m m' _ _ k 56 (omega arith) (omega arith) in
+    let a = id_kept m m' _ _ k 16 (omega arith) (omega arith) in
+    let b = id_kept m m' _ _ k 24 (omega arith) (omega arith) in
+    let c = id_kept m m' _ _ k 32 (omega arith) (omega arith) in
+    let f = id_kept m m' _ _ k 40 (omega arith) (omega arith) in
+    let g = i64_kept m m' _ _ k 48 (omega arith) (omega arith) in
+    let h = i64_kept m m' _ _ k 56 (omega arith) (omega arith) in
     λ i. record {
       trace_high = a i;
       trace_low = b i;

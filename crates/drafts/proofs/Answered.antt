@@ -18,15 +18,15 @@ use Rattle.drafts.specs.Code.{content_refusal, set_chain}
 
 -- an answer, and what is left with it
 pub record Refuses (m : List ℕ) (c : Call) (f : Refusal) : Type 0 where
-  pub answer-is : answer m c ≡ Err f
+  pub answer_is : answer m c ≡ Err f
   pub after_is : after m c ≡ cond (full_refusal f) (counted m c) m
 
 pub record Changes (m : List ℕ) (c : Call) : Type 0 where
-  pub answer-is : answer m c ≡ Ok Changed
+  pub answer_is : answer m c ≡ Ok Changed
   pub after_is : after m c ≡ done m c
 
 pub record Stays (m : List ℕ) (c : Call) : Type 0 where
-  pub answer-is : answer m c ≡ Ok Unchanged
+  pub answer_is : answer m c ≡ Ok Unchanged
   pub after_is : after m c ≡ m
 
 answer_at : (m : List ℕ) (c : Call) (o : Option Refusal) (a : Applied) → refusal m c ≡ o → applied m c ≡ a → answer m c ≡ answered o a
@@ -38,15 +38,15 @@ refused-at m c f e = answer_at m c (Some f) (applied m c) e refl
 
 pub refused : (m : List ℕ) (c : Call) (f : Refusal) → Some f ≡ refusal m c → Refuses m c f
 unfolding after
-refused m c f e = let a = refused-at m c f (sym e) in record { answer-is = a; after_is = rw a }
+refused m c f e = let a = refused-at m c f (sym e) in record { answer_is = a; after_is = rw a }
 
 pub changed : (m : List ℕ) (c : Call) → None ≡ refusal m c → applied m c ≡ Changed → Changes m c
 unfolding after
-changed m c e f = let a = answer_at m c None Changed (sym e) f in record { answer-is = a; after_is = rw a }
+changed m c e f = let a = answer_at m c None Changed (sym e) f in record { answer_is = a; after_is = rw a }
 
 pub stays : (m : List ℕ) (c : Call) → None ≡ refusal m c → applied m c ≡ Unchanged → Stays m c
 unfolding after
-stays m c e f = let a = answer_at m c None Unchanged (sym e) f in record { answer-is = a; after_is = rw a }
+stays m c e f = let a = answer_at m c None Unchanged (sym e) f in record { answer_is = a; after_is = rw a }
 
 -- the refusals of an attribute, one check after another
 chain : (s u : Bool) (x : Option Refusal) → or_else (cond s None (Some NoList)) (or_else (cond u (Some Owner) None) x) ≡ cond s (cond u (Some Owner) x) (Some NoList)
@@ -72,52 +72,52 @@ pub still : (m : List ℕ) (c : Call) (f : Refusal) → counted m c ≡ m → Re
 still m c f e r = r.after_is ∙ ap (λ x. cond (full_refusal f) x m) e ∙ same-both (full_refusal f) m
 
 -- statuses by their numbers
-ok-is : (n : ℕ) → status_of n ≡ StatusOk → eqb n 1 ≡ true
-ok-is n e = grind (arith, nat_tests)
+ok_is : (n : ℕ) → status_of n ≡ StatusOk → eqb n 1 ≡ true
+ok_is n e = grind (arith, nat_tests)
 
 ok-not : (n : ℕ) → (status_of n ≡ StatusOk → ⊥) → eqb n 1 ≡ false
 ok-not n e = grind (arith, nat_tests)
 
-unset-is : (n : ℕ) → n ≤ 2 → status_of n ≡ StatusUnset → eqb n 0 ≡ true
-unset-is n le e = grind (arith, nat_tests)
+unset_is : (n : ℕ) → n ≤ 2 → status_of n ≡ StatusUnset → eqb n 0 ≡ true
+unset_is n le e = grind (arith, nat_tests)
 
-error-is : (n : ℕ) → status_of n ≡ StatusError → n ≡ 2
-error-is n e = grind (arith, nat_tests)
+error_is : (n : ℕ) → status_of n ≡ StatusError → n ≡ 2
+error_is n e = grind (arith, nat_tests)
 
 pub stays-ok : (m : List ℕ) (s : ℕ) (d : List ℕ) → s ≤ 2 → status_of (status_in m) ≡ StatusOk → Stays m (Status s d)
 stays-ok m s d le e =
-    let h = ok-is (status_in m) e in
+    let h = ok_is (status_in m) e in
     let l = le-leb s 2 le in
     stays m (Status s d) (rw (l, h)) (rw h)
 
-pub stays-unset : (m : List ℕ) (s : ℕ) (d : List ℕ) → s ≤ 2 → status_of s ≡ StatusUnset → Stays m (Status s d)
-stays-unset m s d le e =
-    let h : (eqb (status_in m) 1 || eqb s 0) ≡ true = or_right (eqb (status_in m) 1) (eqb s 0) (unset-is s le e) in
+pub stays_unset : (m : List ℕ) (s : ℕ) (d : List ℕ) → s ≤ 2 → status_of s ≡ StatusUnset → Stays m (Status s d)
+stays_unset m s d le e =
+    let h : (eqb (status_in m) 1 || eqb s 0) ≡ true = or_right (eqb (status_in m) 1) (eqb s 0) (unset_is s le e) in
     let l = le-leb s 2 le in
     stays m (Status s d) (rw (l, h)) (rw h)
 
-pub becomes-ok : (m : List ℕ) (s : ℕ) (d : List ℕ) → (status_of (status_in m) ≡ StatusOk → ⊥) → status_of s ≡ StatusOk → (answer m (Status s d) ≡ Ok Changed) × (after m (Status s d) ≡ status_written m 1 d)
-becomes-ok m s d n e =
+pub becomes_ok : (m : List ℕ) (s : ℕ) (d : List ℕ) → (status_of (status_in m) ≡ StatusOk → ⊥) → status_of s ≡ StatusOk → (answer m (Status s d) ≡ Ok Changed) × (after m (Status s d) ≡ status_written m 1 d)
+becomes_ok m s d n e =
     let h = ok-not (status_in m) n in
-    let z : s ≡ 1 = eqb-true s 1 (ok-is s e) in
+    let z : s ≡ 1 = eqb-true s 1 (ok_is s e) in
     let p = changed m (Status 1 d) (rw h) (rw h) in
-    rw z (p.answer-is, p.after_is)
+    rw z (p.answer_is, p.after_is)
 
-error-answers : (m : List ℕ) (d : List ℕ) → eqb (status_in m) 1 ≡ false → answer m (Status 2 d) ≡ answered (head_refusal m 1024 d) Changed
+error_answers : (m : List ℕ) (d : List ℕ) → eqb (status_in m) 1 ≡ false → answer m (Status 2 d) ≡ answered (head_refusal m 1024 d) Changed
 unfolding answer
-error-answers m d h = rw h
+error_answers m d h = rw h
 
-error-leaves : (m : List ℕ) (d : List ℕ) (o : Option Refusal) → answer m (Status 2 d) ≡ answered o Changed → after m (Status 2 d) ≡ cond (accepted (answer m (Status 2 d))) (status_written m 2 d) m
+error_leaves : (m : List ℕ) (d : List ℕ) (o : Option Refusal) → answer m (Status 2 d) ≡ answered o Changed → after m (Status 2 d) ≡ cond (accepted (answer m (Status 2 d))) (status_written m 2 d) m
 unfolding after
-error-leaves m d None e = rw e
-error-leaves m d (Some f) e = rw e (same-both (full_refusal f) m)
+error_leaves m d None e = rw e
+error_leaves m d (Some f) e = rw e (same-both (full_refusal f) m)
 
-pub becomes-error : (m : List ℕ) (s : ℕ) (d : List ℕ) → (status_of (status_in m) ≡ StatusOk → ⊥) → status_of s ≡ StatusError
+pub becomes_error : (m : List ℕ) (s : ℕ) (d : List ℕ) → (status_of (status_in m) ≡ StatusOk → ⊥) → status_of s ≡ StatusError
     → (answer m (Status s d) ≡ answered (head_refusal m 1024 d) Changed) × (after m (Status s d) ≡ cond (accepted (answer m (Status s d))) (status_written m 2 d) m)
-becomes-error m s d n e =
-    let a = error-answers m d (ok-not (status_in m) n) in
-    let z : s ≡ 2 = error-is s e in
-    rw z (a, error-leaves m d (head_refusal m 1024 d) a)
+becomes_error m s d n e =
+    let a = error_answers m d (ok-not (status_in m) n) in
+    let z : s ≡ 2 = error_is s e in
+    rw z (a, error_leaves m d (head_refusal m 1024 d) a)
 
 pub refused-status : (m : List ℕ) (s : ℕ) (d : List ℕ) → 2 < s → Refuses m (Status s d) NoStatus
 refused-status m s d lt = let l = lt-leb s 2 lt in refused m (Status s d) NoStatus (rw l)

@@ -62,46 +62,46 @@ count-not m h i lt ne = rw (rows_more m i lt, ne_eqb (list_in m i) h ne) (omega 
 
 -- the loop
 module _ (m : List ℕ) (l : ℕ) (k : List ℕ) (i : ℕ) where
-  pub plain-hit : i < rows_in m → (eqb (row_fact m i).list l && bytes_eq (row_fact m i).key k) ≡ true → plain_from l k i (drop i (row_facts m)) ≡ Some i
-  plain-hit h e = ap (plain_from l k i) (rows_more m i h) ∙ cond-true _ _ _ e
+  pub plain_hit : i < rows_in m → (eqb (row_fact m i).list l && bytes_eq (row_fact m i).key k) ≡ true → plain_from l k i (drop i (row_facts m)) ≡ Some i
+  plain_hit h e = ap (plain_from l k i) (rows_more m i h) ∙ cond-true _ _ _ e
 
-  pub plain-miss : i < rows_in m → (eqb (row_fact m i).list l && bytes_eq (row_fact m i).key k) ≡ false → plain_from l k i (drop i (row_facts m)) ≡ plain_from l k (i + 1) (drop (i + 1) (row_facts m))
-  plain-miss h e = ap (plain_from l k i) (rows_more m i h) ∙ cond-false _ _ _ e
+  pub plain_miss : i < rows_in m → (eqb (row_fact m i).list l && bytes_eq (row_fact m i).key k) ≡ false → plain_from l k i (drop i (row_facts m)) ≡ plain_from l k (i + 1) (drop (i + 1) (row_facts m))
+  plain_miss h e = ap (plain_from l k i) (rows_more m i h) ∙ cond-false _ _ _ e
 
-  pub plain-none : rows_in m ≤ i → plain_from l k i (drop i (row_facts m)) ≡ None
-  plain-none h = ap (plain_from l k i) (rows_all m i h)
+  pub plain_none : rows_in m ≤ i → plain_from l k i (drop i (row_facts m)) ≡ None
+  plain_none h = ap (plain_from l k i) (rows_all m i h)
 
-pub ruleset plains = (plain-hit, plain-miss, plain-none)
+pub ruleset plains = (plain_hit, plain_miss, plain_none)
 
 -- where nothing from here on begins another owner, each row counts
-and-true : (a b : Bool) → (a && (b && true)) ≡ (a && b)
-and-true true true = refl
-and-true true false = refl
-and-true false b = refl
+and_true : (a b : Bool) → (a && (b && true)) ≡ (a && b)
+and_true true true = refl
+and_true true false = refl
+and_true false b = refl
 
 abbrev Settled : ℕ → List RowFact → Type 0
 Settled l [] = Unit {0}
 Settled l (r ∷ rs) = (ownerless l (r ∷ rs) ≡ true) × Settled l rs
 
-plain-place : (l : ℕ) (k : List ℕ) (i : ℕ) (rs : List RowFact) → Settled l rs → place_from l k i rs ≡ plain_from l k i rs
-plain-place l k i [] h = refl
-plain-place l k i (r ∷ rs) h =
-    let c : hit l k r rs ≡ (eqb r.list l && bytes_eq r.key k) = ap (λ z. eqb r.list l && (bytes_eq r.key k && z)) h.0 ∙ and-true (eqb r.list l) (bytes_eq r.key k) in
-    let ih = plain-place l k (i + 1) rs h.1 in
+plain_place : (l : ℕ) (k : List ℕ) (i : ℕ) (rs : List RowFact) → Settled l rs → place_from l k i rs ≡ plain_from l k i rs
+plain_place l k i [] h = refl
+plain_place l k i (r ∷ rs) h =
+    let c : hit l k r rs ≡ (eqb r.list l && bytes_eq r.key k) = ap (λ z. eqb r.list l && (bytes_eq r.key k && z)) h.0 ∙ and_true (eqb r.list l) (bytes_eq r.key k) in
+    let ih = plain_place l k (i + 1) rs h.1 in
     ap (λ b. cond b (Some i) (place_from l k (i + 1) rs)) c ∙ ap (λ o. cond (eqb r.list l && bytes_eq r.key k) (Some i) o) ih
 
 -- rows before an owner do not count
-and-false : (a b : Bool) → (a && (b && false)) ≡ false
-and-false true true = refl
-and-false true false = refl
-and-false false b = refl
+and_false : (a b : Bool) → (a && (b && false)) ≡ false
+and_false true true = refl
+and_false true false = refl
+and_false false b = refl
 
 skip : (l : ℕ) (k : List ℕ) (i n : ℕ) (rs : List RowFact) → ((j : ℕ) → j < n → j < length rs → ownerless l (drop j rs) ≡ false) → n ≤ length rs → place_from l k i rs ≡ place_from l k (i + n) (drop n rs)
 skip l k i zero rs h le = let e : i + 0 ≡ i = omega arith in rw e
 skip l k i (suc n) [] h le = absurd (omega arith)
 skip l k i (suc n) (r ∷ rs) h le =
     let z : ownerless l (r ∷ rs) ≡ false = h 0 (omega arith) (omega arith) in
-    let x : hit l k r rs ≡ false = ap (λ z. eqb r.list l && (bytes_eq r.key k && z)) z ∙ and-false (eqb r.list l) (bytes_eq r.key k) in
+    let x : hit l k r rs ≡ false = ap (λ z. eqb r.list l && (bytes_eq r.key k && z)) z ∙ and_false (eqb r.list l) (bytes_eq r.key k) in
     let ih = skip l k (i + 1) n rs (λ j lt len. h (suc j) (omega arith) (omega arith)) (omega arith) in
     let e : i + 1 + n ≡ i + suc n = omega arith in
     cond-false (hit l k r rs) _ _ x ∙ ih ∙ ap (λ y. place_from l k y (drop n rs)) e
@@ -113,32 +113,32 @@ OwnedBy l h = (rs : List RowFact) → ownerless l rs ≡ eqb (count h rs) 0
 abbrev pub Unowned : ℕ → Type 0
 Unowned l = (rs : List RowFact) → ownerless l rs ≡ true
 
-settled-owned : (l h : ℕ) → OwnedBy l h → (rs : List RowFact) → count h rs ≡ 0 → Settled l rs
-settled-owned l h o [] z = tt
-settled-owned l h o (r ∷ rs) z = (o (r ∷ rs) ∙ eq-eqb (count h (r ∷ rs)) 0 z, settled-owned l h o rs (omega arith))
+settled_owned : (l h : ℕ) → OwnedBy l h → (rs : List RowFact) → count h rs ≡ 0 → Settled l rs
+settled_owned l h o [] z = tt
+settled_owned l h o (r ∷ rs) z = (o (r ∷ rs) ∙ eq-eqb (count h (r ∷ rs)) 0 z, settled_owned l h o rs (omega arith))
 
 settled-unowned : (l : ℕ) → Unowned l → (rs : List RowFact) → Settled l rs
 settled-unowned l o [] = tt
 settled-unowned l o (r ∷ rs) = (o (r ∷ rs), settled-unowned l o rs)
 
-pub plain-unowned : (l : ℕ) (k : List ℕ) (m : List ℕ) → Unowned l → plain_from l k 0 (drop 0 (row_facts m)) ≡ place_from l k 0 (row_facts m)
-plain-unowned l k m o = sym (plain-place l k 0 (row_facts m) (settled-unowned l o (row_facts m)))
+pub plain_unowned : (l : ℕ) (k : List ℕ) (m : List ℕ) → Unowned l → plain_from l k 0 (drop 0 (row_facts m)) ≡ place_from l k 0 (row_facts m)
+plain_unowned l k m o = sym (plain_place l k 0 (row_facts m) (settled-unowned l o (row_facts m)))
 
-pub plain-owned : (l h : ℕ) (k : List ℕ) (m : List ℕ) (n : ℕ) → OwnedBy l h → n ≤ rows_in m → count h (drop n (row_facts m)) ≡ 0 → ((j : ℕ) → j < n → 0 < count h (drop j (row_facts m)))
+pub plain_owned : (l h : ℕ) (k : List ℕ) (m : List ℕ) (n : ℕ) → OwnedBy l h → n ≤ rows_in m → count h (drop n (row_facts m)) ≡ 0 → ((j : ℕ) → j < n → 0 < count h (drop j (row_facts m)))
     → plain_from l k n (drop n (row_facts m)) ≡ place_from l k 0 (row_facts m)
-plain-owned l h k m n o le z some =
+plain_owned l h k m n o le z some =
     let e : 0 + n ≡ n = omega arith in
     let s = skip l k 0 n (row_facts m) (λ j lt len. o (drop j (row_facts m)) ∙ ne_eqb (count h (drop j (row_facts m))) 0 (λ q. let p = some j lt in omega arith)) (omega (arith, length-rows m)) in
-    sym (s ∙ ap (λ y. place_from l k y (drop n (row_facts m))) e ∙ plain-place l k n (drop n (row_facts m)) (settled-owned l h o (drop n (row_facts m)) z))
+    sym (s ∙ ap (λ y. place_from l k y (drop n (row_facts m))) e ∙ plain_place l k n (drop n (row_facts m)) (settled_owned l h o (drop n (row_facts m)) z))
 
 -- which lists have owners
-pub by-events : (l : ListCase) → (l ≡ Event) ⊎ (l ≡ EventAttribute) → OwnedBy (list_number l) 3
-by-events l (inl e) rs = rw e
-by-events l (inr e) rs = rw e
+pub by_events : (l : ListCase) → (l ≡ Event) ⊎ (l ≡ EventAttribute) → OwnedBy (list_number l) 3
+by_events l (inl e) rs = rw e
+by_events l (inr e) rs = rw e
 
-pub by-links : (l : ListCase) → (l ≡ Link) ⊎ (l ≡ LinkAttribute) → OwnedBy (list_number l) 5
-by-links l (inl e) rs = rw e
-by-links l (inr e) rs = rw e
+pub by_links : (l : ListCase) → (l ≡ Link) ⊎ (l ≡ LinkAttribute) → OwnedBy (list_number l) 5
+by_links l (inl e) rs = rw e
+by_links l (inr e) rs = rw e
 
 pub by-none : (l : ListCase) → (l ≡ Event → ⊥) → (l ≡ EventAttribute → ⊥) → (l ≡ Link → ⊥) → (l ≡ LinkAttribute → ⊥) → Unowned (list_number l)
 by-none Span a b c d rs = refl

@@ -25,11 +25,11 @@ refusal-unformed : (m : List ℕ) (l : ℕ) (k : List ℕ) (n : ℕ) (v : List �
 refusal-unformed m l k n v f e =
     ap (λ x. cond (settable l) (cond (unowned m l) (Some Owner) (or_else (key_refusal k) (or_else (option_map Value x) (room_of_set m (place_from l k 0 (row_facts m)) l (length k) (length v))))) (Some NoList)) e
 
-some-refusal : (s u : Bool) (o : Option Refusal) (x : Refusal) → (g : Refusal) × (cond s (cond u (Some Owner) (or_else o (Some x))) (Some NoList) ≡ Some g)
-some-refusal true true o x = (Owner, refl)
-some-refusal true false None x = (x, refl)
-some-refusal true false (Some y) x = (y, refl)
-some-refusal false u o x = (NoList, refl)
+some_refusal : (s u : Bool) (o : Option Refusal) (x : Refusal) → (g : Refusal) × (cond s (cond u (Some Owner) (or_else o (Some x))) (Some NoList) ≡ Some g)
+some_refusal true true o x = (Owner, refl)
+some_refusal true false None x = (x, refl)
+some_refusal true false (Some y) x = (y, refl)
+some_refusal false u o x = (NoList, refl)
 
 pub record Alike (m : List ℕ) (l : ℕ) (k : List ℕ) (n : ℕ) (v w : List ℕ) : Type 0 where
   pub answers : answer m (Set l k n v) ≡ answer m (Set l k n w)
@@ -37,23 +37,23 @@ pub record Alike (m : List ℕ) (l : ℕ) (k : List ℕ) (n : ℕ) (v w : List �
 
 pub alike : (m : List ℕ) (l : ℕ) (k : List ℕ) (n : ℕ) (v w : List ℕ) (f : ValueFault) → value_fault n v ≡ Some f → value_fault n w ≡ Some f → Alike m l k n v w
 alike m l k n v w f a b =
-    let s = some-refusal (settable l) (unowned m l) (key_refusal k) (Value f) in
+    let s = some_refusal (settable l) (unowned m l) (key_refusal k) (Value f) in
     let p = refused m (Set l k n v) s.0 (sym (refusal-unformed m l k n v f a ∙ s.1)) in
     let q = refused m (Set l k n w) s.0 (sym (refusal-unformed m l k n w f b ∙ s.1)) in
-    record { answers = p.answer-is ∙ sym q.answer-is; afters = p.after_is ∙ sym q.after_is }
+    record { answers = p.answer_is ∙ sym q.answer_is; afters = p.after_is ∙ sym q.after_is }
 
 -- a double whose text is too long has no form, as one with no bytes
-long-double : (p : ℕ) (t : List ℕ) → 400 < length t → value_fault 2 (bytes8 p ++ t) ≡ Some Form
-long-double p t h =
+long_double : (p : ℕ) (t : List ℕ) → 400 < length t → value_fault 2 (bytes8 p ++ t) ≡ Some Form
+long_double p t h =
     let v = bytes8 p ++ t in
     let l : leb (length v) 408 ≡ false = lt-leb (length v) 408 (omega arith) in
     ap datum_fault (cond-false (ltb 8 (length v) && leb (length v) 408) _ _ (and_right (ltb 8 (length v)) (leb (length v) 408) l))
 
-pub long-alike : (m : List ℕ) (l : ℕ) (k : List ℕ) (p : ℕ) (t : List ℕ) → 400 < length t → Alike m l k 2 [] (bytes8 p ++ t)
-long-alike m l k p t h = alike m l k 2 [] (bytes8 p ++ t) Form refl (long-double p t h)
+pub long_alike : (m : List ℕ) (l : ℕ) (k : List ℕ) (p : ℕ) (t : List ℕ) → 400 < length t → Alike m l k 2 [] (bytes8 p ++ t)
+long_alike m l k p t h = alike m l k 2 [] (bytes8 p ++ t) Form refl (long_double p t h)
 
 -- a double that fits its buffer
-pub double-is : (p : ℕ) (t x b : List ℕ) (n : ℕ) → length t ≤ 400 → n ≡ 8 + length t → x ≡ written (replicate 408 0) 0 (bytes8 p ++ t) → b ≡ portion x 0 n → b ≡ bytes8 p ++ t
-double-is p t x b n h e f g =
+pub double_is : (p : ℕ) (t x b : List ℕ) (n : ℕ) → length t ≤ 400 → n ≡ 8 + length t → x ≡ written (replicate 408 0) 0 (bytes8 p ++ t) → b ≡ portion x 0 n → b ≡ bytes8 p ++ t
+double_is p t x b n h e f g =
     let w = portion-written (replicate 408 0) 0 (bytes8 p ++ t) n (omega arith) (omega arith) in
     g ∙ ap (λ y. portion y 0 n) f ∙ w

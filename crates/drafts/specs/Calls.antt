@@ -51,15 +51,15 @@ pub data Call : Type 0 where
 pub record SizedOpening (o : Opening) : Type 0 where
   pub capacity : o.capacity < 2 ^ 16
   pub kind : o.kind < 256
-  pub trace-high : o.trace_high < 2 ^ 64
-  pub trace-low : o.trace_low < 2 ^ 64
-  pub span-id : o.span_id < 2 ^ 64
-  pub parent-id : o.parent_id < 2 ^ 64
+  pub trace_high : o.trace_high < 2 ^ 64
+  pub trace_low : o.trace_low < 2 ^ 64
+  pub span_id : o.span_id < 2 ^ 64
+  pub parent_id : o.parent_id < 2 ^ 64
   pub start : FitsSigned w64 o.start
   pub name : Bytes o.name
-  pub trace-state : Bytes o.trace_state
-  pub scope-name : Bytes o.scope_name
-  pub scope-version : Bytes o.scope_version
+  pub trace_state : Bytes o.trace_state
+  pub scope_name : Bytes o.scope_name
+  pub scope_version : Bytes o.scope_version
 
 abbrev pub SizedCall : Call → Type 0
 SizedCall (Set l k n v) = (l < 256) × (Bytes k × ((n < 256) × Bytes v))

@@ -50,9 +50,9 @@ numbers_of r =
 -- texts of a start that are not too long
 pub record ShortTexts (o : Opening) : Type 0 where
   pub name : length o.name ≤ 255
-  pub trace-state : length o.trace_state ≤ 512
-  pub scope-name : length o.scope_name ≤ 255
-  pub scope-version : length o.scope_version ≤ 255
+  pub trace_state : length o.trace_state ≤ 512
+  pub scope_name : length o.scope_name ≤ 255
+  pub scope_version : length o.scope_version ≤ 255
 
 -- parts of a header
 abbrev pub numbered : List ℕ → Opening → ℕ → List ℕ

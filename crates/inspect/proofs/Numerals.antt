@@ -25,8 +25,8 @@ module _ (n i : ℕ) (bs : List ℕ) where
   number-none h e =
       ap (number_from (Some n)) (drop_more bs i 0 h) ∙ (ap (λ o. number_from (more (Some n) o) (drop (i + 1) bs)) e ∙ none_stays (drop (i + 1) bs))
 
-  pub number-end : length bs ≤ i → number_from (Some n) (drop i bs) ≡ Some n
-  number-end h = ap (number_from (Some n)) (drop_all i bs h)
+  pub number_end : length bs ≤ i → number_from (Some n) (drop i bs) ≡ Some n
+  number_end h = ap (number_from (Some n)) (drop_all i bs h)
 
 pub pattern_number : (bs : List ℕ) → length bs ≡ 16 → pattern_of bs ≡ number_from (Some 0) bs
 pattern_number bs h = cond-true _ _ _ (eq-eqb (length bs) 16 h)

@@ -27,18 +27,18 @@ module _ {K : Type 0} (same : K → K → Bool) (dec : (a b : K) → Decides (sa
   not-both : (k x : K) (xs : List K) → among same k xs ≡ true → among same x xs ≡ false → same k x ≡ false
   not-both k x xs t n = ⊎_elim (λ s. absurd (both_ways (among same x xs) n (rw ((dec k x).0 s) at t))) (λ f. f) (cases_Bool (same k x))
 
-  among-push : (x y : K) (xs : List K) → among same x (xs ++ y ∷ []) ≡ false → (among same x xs ≡ false) × (same y x ≡ false)
-  among-push x y [] n = (refl, (or_parts (same y x) false n).0)
-  among-push x y (z ∷ xs) n =
+  among_push : (x y : K) (xs : List K) → among same x (xs ++ y ∷ []) ≡ false → (among same x xs ≡ false) × (same y x ≡ false)
+  among_push x y [] n = (refl, (or_parts (same y x) false n).0)
+  among_push x y (z ∷ xs) n =
       let q = or_parts (same z x) _ n in
-      let r = among-push x y xs q.1 in
+      let r = among_push x y xs q.1 in
       (or_from _ _ q.0 r.0, r.1)
 
-  push-among : (x y : K) (xs : List K) → among same x xs ≡ false → same y x ≡ false → among same x (xs ++ y ∷ []) ≡ false
-  push-among x y [] n e = or_from _ _ e refl
-  push-among x y (z ∷ xs) n e =
+  push_among : (x y : K) (xs : List K) → among same x xs ≡ false → same y x ≡ false → among same x (xs ++ y ∷ []) ≡ false
+  push_among x y [] n e = or_from _ _ e refl
+  push_among x y (z ∷ xs) n e =
       let q = or_parts (same z x) _ n in
-      or_from _ _ q.0 (push-among x y xs q.1 e)
+      or_from _ _ q.0 (push_among x y xs q.1 e)
 
   -- what is new is not among what was seen
   map-new : {Y : Type 0} (f g : K → Y) (seen ks : List K) → ((x : K) → among same x seen ≡ false → f x ≡ g x) → map f (new same seen ks) ≡ map g (new same seen ks)
@@ -46,23 +46,23 @@ module _ {K : Type 0} (same : K → K → Bool) (dec : (a b : K) → Decides (sa
   map-new f g seen (k ∷ ks) h =
       ⊎_elim
       (λ t. rw t (map-new f g seen ks h))
-      (λ n. let a = h k n in let b = map-new f g (seen ++ k ∷ []) ks (λ x l. h x (among-push x k seen l).0) in rw n (cc))
+      (λ n. let a = h k n in let b = map-new f g (seen ++ k ∷ []) ks (λ x l. h x (among_push x k seen l).0) in rw n (cc))
       (cases_Bool (among same k seen))
 
-  apart-push : (xs : List K) (k : K) → Apart same xs → among same k xs ≡ false → Apart same (xs ++ k ∷ [])
-  apart-push [] k a n = (refl, tt)
-  apart-push (x ∷ xs) k a n =
+  apart_push : (xs : List K) (k : K) → Apart same xs → among same k xs ≡ false → Apart same (xs ++ k ∷ [])
+  apart_push [] k a n = (refl, tt)
+  apart_push (x ∷ xs) k a n =
       let q = or_parts (same x k) _ n in
-      (push-among x k xs a.0 (swap x k q.0), apart-push xs k a.1 q.1)
+      (push_among x k xs a.0 (swap x k q.0), apart_push xs k a.1 q.1)
 
 module _ {K V : Type 0} (same : K → K → Bool) (dec : (a b : K) → Decides (same a b) (a ≡ b)) where
   -- a list whose elements are not k, under two functions that agree away from k
-  map-away : {Y : Type 0} (f g : K × V → Y) (k : K) → ((p : K × V) → same p.0 k ≡ false → f p ≡ g p) → (m : List (K × V)) → among same k (keys m) ≡ false → map f m ≡ map g m
-  map-away f g k h [] n = refl
-  map-away f g k h (p ∷ m) n =
+  map_away : {Y : Type 0} (f g : K × V → Y) (k : K) → ((p : K × V) → same p.0 k ≡ false → f p ≡ g p) → (m : List (K × V)) → among same k (keys m) ≡ false → map f m ≡ map g m
+  map_away f g k h [] n = refl
+  map_away f g k h (p ∷ m) n =
       let q = or_parts (same p.0 k) _ n in
       let a = h p q.0 in
-      let b = map-away f g k h m q.1 in
+      let b = map_away f g k h m q.1 in
       cc
 
   keys_push : (m : List (K × V)) (k : K) (v : V) → keys (m ++ (k, v) ∷ []) ≡ keys m ++ k ∷ []
@@ -95,7 +95,7 @@ module _ {K V : Type 0} (same : K → K → Bool) (dec : (a b : K) → Decides (
       (λ e. let i : p.0 ≡ k = (dec p.0 k).0 e in
       let n : among same k (keys m) ≡ false = rw i at a.0 in
       let j : same k p.0 ≡ true = (dec k p.0).1 (sym i) in
-      let b : m ≡ put m k v = sym (map_same m) ∙ map-away (λ p. (p.0, p.1)) (λ p. (p.0, cond (same k p.0) v p.1)) k (λ q l. rw (swap same dec q.0 k l)) m n in
+      let b : m ≡ put m k v = sym (map_same m) ∙ map_away (λ p. (p.0, p.1)) (λ p. (p.0, cond (same k p.0) v p.1)) k (λ q l. rw (swap same dec q.0 k l)) m n in
       rw (e, j) (cc))
       (λ e. let j : same k p.0 ≡ false = swap same dec p.0 k e in
       rw (e, j) (ap (λ l. p ∷ l) (insert-old m k v a.1 (rw e at t))))
@@ -122,10 +122,10 @@ module _ {K V : Type 0} (same : K → K → Bool) (dec : (a b : K) → Decides (
       rw (i, t) (cc))
       (λ n. let i = insert-new m k v n in
       let e = keys_push m k v in
-      let ih = inserts-from d ps (m ++ (k, v) ∷ []) (rw e (apart-push same dec (keys m) k a n)) in
+      let ih = inserts-from d ps (m ++ (k, v) ∷ []) (rw e (apart_push same dec (keys m) k a n)) in
       let s : same k k ≡ true = (dec k k).1 refl in
-      let o : old ps m ≡ old (q ∷ ps) m = map-away _ _ k (λ p l. rw (swap same dec p.0 k l)) m n in
-      let f : fresh d ps (new same (keys m ++ k ∷ []) (keys ps)) ≡ fresh d (q ∷ ps) (new same (keys m ++ k ∷ []) (keys ps)) = map-new same dec _ _ (keys m ++ k ∷ []) (keys ps) (λ x l. rw (among-push same dec x k (keys m) l).1) in
+      let o : old ps m ≡ old (q ∷ ps) m = map_away _ _ k (λ p l. rw (swap same dec p.0 k l)) m n in
+      let f : fresh d ps (new same (keys m ++ k ∷ []) (keys ps)) ≡ fresh d (q ∷ ps) (new same (keys m ++ k ∷ []) (keys ps)) = map-new same dec _ _ (keys m ++ k ∷ []) (keys ps) (λ x l. rw (among_push same dec x k (keys m) l).1) in
       let u = map_push (λ p. (p.0, last same p.1 p.0 ps)) m (k, v) (fresh d ps (new same (keys m ++ k ∷ []) (keys ps))) in
       rw (i, n, s) (cc))
       (cases_Bool (among same k (keys m)))
@@ -134,5 +134,5 @@ module _ {K V : Type 0} (same : K → K → Bool) (dec : (a b : K) → Decides (
   pub inserts-all : (d : V) (ps : List (K × V)) → inserts same [] ps ≡ settled same d ps
   inserts-all d ps = inserts-from d ps [] tt
 
-pub inserted-in-order : InsertedInOrder
-inserted-in-order d ps = inserts-all bytes_eq bytes_eq-Decides d ps
+pub inserted_in_order_lem : InsertedInOrder
+inserted_in_order_lem d ps = inserts-all bytes_eq bytes_eq-Decides d ps

@@ -6,14 +6,14 @@ use Rattle.lent_bytes.proofs.Clips.{clip-all}
 use Rattle.readers.specs.Reading.{Known, text_of, bytes_of, size_of}
 use Rattle.readers.specs.Tables.{entry_for}
 use Rattle.readers.specs.Texts.{Filled}
-use Rattle.readers.proofs.Entries.{or_some, entry-within}
+use Rattle.readers.proofs.Entries.{or_some, entry_within}
 use Rattle.readers.proofs.Fronts.{portion-padded}
 use Rattle.layer.specs.Later.{later_names, earlier_text, earlier_known}
 
 pub placed : (t u x : List ℕ) (w r : ℕ) (out : List ℕ) → w ≡ 4096 → u ≡ t → Some x ≡ entry_for u later_names → Placed w x r out → Filled 4096 (earlier_text t) r out
 placed t u x w r out ew eu d p =
     let e : Some x ≡ entry_for t later_names = d ∙ ap (λ v. entry_for v later_names) eu in
-    let s : length x ≤ 4096 = entry-within 4096 t later_names x refl e in
+    let s : length x ≤ 4096 = entry_within 4096 t later_names x refl e in
     let k : clip w x ≡ x = clip-all w x (omega arith) in
     let i : x ≡ earlier_text t = or_some (entry_for t later_names) x t e in
     record { len = p.len ∙ ap length (k ∙ i); text = p.text ∙ ap (padded w) (k ∙ i) ∙ ap (λ v. padded v (earlier_text t)) ew }
@@ -31,14 +31,14 @@ read-filled (Some t) n out e f =
     record { len = i ∙ ap length (sym p); text = f ∙ ap (padded 4096) (sym p) }
 
 -- what the two calls answer, of a key that names a database system
-pub of-span : (b : Bool) (o : Option Known) (n r : ℕ) (out after : List ℕ) → true ≡ b → Some n ≡ size_of (text_of o) → out ≡ padded 4096 (bytes_of (text_of o)) → Filled 4096 (earlier_text (portion out 0 n)) r after → (Some r ≡ size_of (text_of (cond b (option_map earlier_known o) o))) × (after ≡ padded 4096 (bytes_of (text_of (cond b (option_map earlier_known o) o))))
-of-span b None n r out after h e f p = let z : ◌≡◌ {A = ℕ} 0 1 = cc in absurd (omega arith)
-of-span b (Some k) n r out after h e f p =
+pub of_span : (b : Bool) (o : Option Known) (n r : ℕ) (out after : List ℕ) → true ≡ b → Some n ≡ size_of (text_of o) → out ≡ padded 4096 (bytes_of (text_of o)) → Filled 4096 (earlier_text (portion out 0 n)) r after → (Some r ≡ size_of (text_of (cond b (option_map earlier_known o) o))) × (after ≡ padded 4096 (bytes_of (text_of (cond b (option_map earlier_known o) o))))
+of_span b None n r out after h e f p = let z : ◌≡◌ {A = ℕ} 0 1 = cc in absurd (omega arith)
+of_span b (Some k) n r out after h e f p =
     let i : portion out 0 n ≡ k.text = read-front (Some k.text) n out e f in
     rw (← h) (ap Some (p.len ∙ ap (λ t. length (earlier_text t)) i), p.text ∙ ap (λ t. padded 4096 (earlier_text t)) i)
 
-pub of-resource : (b : Bool) (o : Option (List ℕ)) (n r : ℕ) (out after : List ℕ) → true ≡ b → Some n ≡ size_of o → out ≡ padded 4096 (bytes_of o) → Filled 4096 (earlier_text (portion out 0 n)) r after → (Some r ≡ size_of (cond b (option_map earlier_text o) o)) × (after ≡ padded 4096 (bytes_of (cond b (option_map earlier_text o) o)))
-of-resource b None n r out after h e f p = let z : ◌≡◌ {A = ℕ} 0 1 = cc in absurd (omega arith)
-of-resource b (Some t) n r out after h e f p =
+pub of_resource : (b : Bool) (o : Option (List ℕ)) (n r : ℕ) (out after : List ℕ) → true ≡ b → Some n ≡ size_of o → out ≡ padded 4096 (bytes_of o) → Filled 4096 (earlier_text (portion out 0 n)) r after → (Some r ≡ size_of (cond b (option_map earlier_text o) o)) × (after ≡ padded 4096 (bytes_of (cond b (option_map earlier_text o) o)))
+of_resource b None n r out after h e f p = let z : ◌≡◌ {A = ℕ} 0 1 = cc in absurd (omega arith)
+of_resource b (Some t) n r out after h e f p =
     let i : portion out 0 n ≡ t = read-front (Some t) n out e f in
     rw (← h) (ap Some (p.len ∙ ap (λ t. length (earlier_text t)) i), p.text ∙ ap (λ t. padded 4096 (earlier_text t)) i)

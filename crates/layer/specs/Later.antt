@@ -47,10 +47,10 @@ later_edition r =
 
 -- layers one on the other, the first on top
 pub data Layer : Type 0 where
-  later-edition : Layer
+  later_layer : Layer
 
 abbrev pub under : Layer → Reading → Reading
-under later-edition r = later_edition r
+under later_layer r = later_edition r
 
 abbrev pub piled : List Layer → Reading → Reading
 piled [] r = r

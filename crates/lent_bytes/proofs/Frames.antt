@@ -22,9 +22,9 @@ module _ (m : List ℕ) (at : ℕ) (s : List ℕ) where
   length-written = search (rules, places)
 
   -- a part that ends before the written one begins
-  pub portion-before : (a n : ℕ) → a + n ≤ at → portion (written m at s) a n ≡ portion m a n
+  pub portion_before : (a n : ℕ) → a + n ≤ at → portion (written m at s) a n ≡ portion m a n
   unfolding portion written
-  portion-before a n h = same_lists _ _ (search (rules, places)) (λ k d l. grind (arith, places))
+  portion_before a n h = same_lists _ _ (search (rules, places)) (λ k d l. grind (arith, places))
 
   -- a part that begins where the written one ends, or after
   pub portion-after : (a n : ℕ) → at + length s ≤ a → portion (written m at s) a n ≡ portion m a n
@@ -42,9 +42,9 @@ module _ (m : List ℕ) (at : ℕ) (s : List ℕ) where
   portion-written n e f = same_lists _ _ (search (rules, places)) (λ k d l. grind (arith, places))
 
   -- each byte
-  pub get_or-before : (k d : ℕ) → k < at → get_or (written m at s) k d ≡ get_or m k d
+  pub get_or_before : (k d : ℕ) → k < at → get_or (written m at s) k d ≡ get_or m k d
   unfolding written
-  get_or-before k d h = grind (arith, places)
+  get_or_before k d h = grind (arith, places)
 
   pub get_or-after : (k d : ℕ) → at + length s ≤ k → get_or (written m at s) k d ≡ get_or m k d
   unfolding written
@@ -69,12 +69,12 @@ unfolding written
 written_none m at = same_lists _ _ (search (rules, places)) (λ k d l. grind (arith, places))
 
 -- a byte after writes that stay shut
-ruleset spots = (arith, length-written, get_or-before, get_or-after, get_or-within)
+ruleset spots = (arith, length-written, get_or_before, get_or-after, get_or-within)
 
 module _ (m : List ℕ) (at : ℕ) (s t : List ℕ) where
   -- one write behind another is one write
-  pub written-append : written (written m at s) (at + length s) t ≡ written m at (s ++ t)
-  written-append = same_lists _ _ (search (rules, length-written)) (λ k d l. grind (spots, places))
+  pub written_append : written (written m at s) (at + length s) t ≡ written m at (s ++ t)
+  written_append = same_lists _ _ (search (rules, length-written)) (λ k d l. grind (spots, places))
 
   -- writes apart may change places
   pub written_apart : (b : ℕ) → at + length s ≤ b → written (written m at s) b t ≡ written (written m b t) at s
@@ -103,8 +103,8 @@ int8-ints8 v h = ap (to_z w64) (le8-bytes8 (of_z w64 v) (of_z_fits w64 v h).fits
 
 -- what is read from a part, a number or any other
 module _ (m : List ℕ) (at : ℕ) (s : List ℕ) {X : Type 0} (F : List ℕ → X) where
-  pub read-before : (a n : ℕ) → a + n ≤ at → F (portion (written m at s) a n) ≡ F (portion m a n)
-  read-before a n h = ap F (portion-before m at s a n h)
+  pub read_before : (a n : ℕ) → a + n ≤ at → F (portion (written m at s) a n) ≡ F (portion m a n)
+  read_before a n h = ap F (portion_before m at s a n h)
 
   pub read-after : (a n : ℕ) → at + length s ≤ a → F (portion (written m at s) a n) ≡ F (portion m a n)
   read-after a n h = ap F (portion-after m at s a n h)
@@ -113,4 +113,4 @@ module _ (m : List ℕ) (at : ℕ) (s : List ℕ) {X : Type 0} (F : List ℕ →
   read-written n e h = ap F (portion-written m at s n e h)
 
 -- for `search (rules, frames)`
-pub ruleset frames = (length-written, portion-before, portion-after, portion-within, portion-written, le2-bytes2, le4-bytes4, le8-bytes8)
+pub ruleset frames = (length-written, portion_before, portion-after, portion-within, portion-written, le2-bytes2, le4-bytes4, le8-bytes8)

@@ -7,17 +7,17 @@ use Rattle.std.proofs.lemmas.Bool.{cond-true, cond-false, cond_both, and_parts, 
 use Rattle.lent_bytes.specs.Lookup.{index_from, lacks, distinct, Found, LookedUpExactly}
 
 module _ (k : List ℕ) (ts : List (List ℕ)) (i : ℕ) where
-  pub index-hit : i < length ts → bytes_eq (get_or ts i []) k ≡ true → index_from i k (drop i ts) ≡ Some i
-  index-hit h e = ap (index_from i k) (drop_more ts i [] h) ∙ cond-true _ _ _ e
+  pub index_hit : i < length ts → bytes_eq (get_or ts i []) k ≡ true → index_from i k (drop i ts) ≡ Some i
+  index_hit h e = ap (index_from i k) (drop_more ts i [] h) ∙ cond-true _ _ _ e
 
-  pub index-miss : i < length ts → bytes_eq (get_or ts i []) k ≡ false → index_from i k (drop i ts) ≡ index_from (i + 1) k (drop (i + 1) ts)
-  index-miss h e = ap (index_from i k) (drop_more ts i [] h) ∙ cond-false _ _ _ e
+  pub index_miss : i < length ts → bytes_eq (get_or ts i []) k ≡ false → index_from i k (drop i ts) ≡ index_from (i + 1) k (drop (i + 1) ts)
+  index_miss h e = ap (index_from i k) (drop_more ts i [] h) ∙ cond-false _ _ _ e
 
-  pub index-none : length ts ≤ i → index_from i k (drop i ts) ≡ None
-  index-none h = ap (index_from i k) (drop_all i ts h)
+  pub index_none : length ts ≤ i → index_from i k (drop i ts) ≡ None
+  index_none h = ap (index_from i k) (drop_all i ts h)
 
 -- for `search (rules, looks)`
-pub ruleset looks = (index-hit, index-miss, index-none)
+pub ruleset looks = (index_hit, index_miss, index_none)
 
 -- texts that are the same, and texts that are not
 pub same_from : (a b : List ℕ) → a ≡ b → bytes_eq a b ≡ true
@@ -39,16 +39,16 @@ at-step : (i : ℕ) (k x : List ℕ) (xs : List (List ℕ)) (o : Option ℕ) →
 at-step i k x xs None f h = at_none k x xs f h
 at-step i k x xs (Some p) f (q, h) = (suc q, (omega arith, omega arith, h.2))
 
-at-index : (i : ℕ) (k : List ℕ) (ts : List (List ℕ)) → At i k ts (index_from i k ts)
-at-index i k [] = λ j l e. omega arith
-at-index i k (x ∷ xs) =
+at_index : (i : ℕ) (k : List ℕ) (ts : List (List ℕ)) → At i k ts (index_from i k ts)
+at_index i k [] = λ j l e. omega arith
+at_index i k (x ∷ xs) =
     cond_both
     (bytes_eq x k)
     (Some i)
     (index_from (i + 1) k xs)
     (At i k (x ∷ xs))
     (λ e. (0, (omega arith, omega arith, (bytes_eq-Decides x k).0 e)))
-    (λ f. at-step i k x xs (index_from (i + 1) k xs) f (at-index (i + 1) k xs))
+    (λ f. at-step i k x xs (index_from (i + 1) k xs) f (at_index (i + 1) k xs))
 
 found_from : (k : List ℕ) (ts : List (List ℕ)) (o : Option ℕ) → At 0 k ts o → Found k ts o
 found_from k ts None h = h
@@ -57,8 +57,8 @@ found_from k ts (Some p) (q, h) =
     (omega arith, ap (λ j. get_or ts j []) (sym e) ∙ h.2)
 
 -- a look-up answers a place of the text, or none where there is none
-pub index-found : (k : List ℕ) (ts : List (List ℕ)) → Found k ts (index_from 0 k ts)
-index-found k ts = found_from k ts _ (at-index 0 k ts)
+pub index_found : (k : List ℕ) (ts : List (List ℕ)) → Found k ts (index_from 0 k ts)
+index_found k ts = found_from k ts _ (at_index 0 k ts)
 
 -- a text of the table stands nowhere behind itself
 pub lacks-at : (x : List ℕ) (xs : List (List ℕ)) (j : ℕ) → lacks x xs ≡ true → j < length xs → get_or xs j [] ≡ x → ⊥
@@ -66,18 +66,18 @@ lacks-at x [] j d l e = omega arith
 lacks-at x (y ∷ ys) zero d l e = apart_from y x (not-true _ (and_parts (not (bytes_eq y x)) (lacks x ys) d).0) e
 lacks-at x (y ∷ ys) (suc j) d l e = lacks-at x ys j (and_parts (not (bytes_eq y x)) (lacks x ys) d).1 (omega arith) e
 
-index-behind : (i : ℕ) (k x : List ℕ) (xs : List (List ℕ)) (j : ℕ) → lacks x xs ≡ true → j < length xs → get_or xs j [] ≡ k → index_from i k (x ∷ xs) ≡ index_from (i + 1) k xs
-index-behind i k x xs j d l e =
+index_behind : (i : ℕ) (k x : List ℕ) (xs : List (List ℕ)) (j : ℕ) → lacks x xs ≡ true → j < length xs → get_or xs j [] ≡ k → index_from i k (x ∷ xs) ≡ index_from (i + 1) k xs
+index_behind i k x xs j d l e =
     elim (cases_Bool (bytes_eq x k)) [ inl t ↦ absurd (lacks-at x xs j d l (e ∙ sym ((bytes_eq-Decides x k).0 t))) | inr f ↦ cond-false _ _ _ f ]
 
 -- where no text stands twice, a text is found at its own place
-pub index-exact : (i : ℕ) (k : List ℕ) (ts : List (List ℕ)) (j : ℕ) → distinct ts ≡ true → j < length ts → get_or ts j [] ≡ k → index_from i k ts ≡ Some (i + j)
-index-exact i k [] j d l e = absurd (omega arith)
-index-exact i k (x ∷ xs) zero d l e = cond-true _ _ _ (same_from x k e) ∙ ap Some (omega arith)
-index-exact i k (x ∷ xs) (suc j) d l e =
+pub index_exact : (i : ℕ) (k : List ℕ) (ts : List (List ℕ)) (j : ℕ) → distinct ts ≡ true → j < length ts → get_or ts j [] ≡ k → index_from i k ts ≡ Some (i + j)
+index_exact i k [] j d l e = absurd (omega arith)
+index_exact i k (x ∷ xs) zero d l e = cond-true _ _ _ (same_from x k e) ∙ ap Some (omega arith)
+index_exact i k (x ∷ xs) (suc j) d l e =
     let p = and_parts (lacks x xs) (distinct xs) d in
-    index-behind i k x xs j p.0 (omega arith) e ∙ (index-exact (i + 1) k xs j p.1 (omega arith) e ∙ ap Some (omega arith))
+    index_behind i k x xs j p.0 (omega arith) e ∙ (index_exact (i + 1) k xs j p.1 (omega arith) e ∙ ap Some (omega arith))
 
-pub looked-up-exactly : (ts : List (List ℕ)) → distinct ts ≡ true → LookedUpExactly ts
-looked-up-exactly ts d k =
-    (index-found k ts, λ i l e. index-exact 0 k ts i d l e ∙ ap Some (omega arith))
+pub looked_up_exactly : (ts : List (List ℕ)) → distinct ts ≡ true → LookedUpExactly ts
+looked_up_exactly ts d k =
+    (index_found k ts, λ i l e. index_exact 0 k ts i d l e ∙ ap Some (omega arith))

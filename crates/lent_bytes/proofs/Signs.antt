@@ -4,15 +4,15 @@ use Rattle.lent_bytes.specs.Digits.{hex_pair}
 use Rattle.std.proofs.lemmas.Int.{ints}
 use Rattle.std.specs.Fmt.{signed_decimal}
 
-pub signed-negative : (z : ℤ) → z <ℤ pos 0 → signed_decimal z ≡ 45 ∷ decimal (nat_abs z)
-signed-negative (pos n) h = absurd (omega (arith, ints))
-signed-negative (negsuc n) h = refl
+pub signed_negative : (z : ℤ) → z <ℤ pos 0 → signed_decimal z ≡ 45 ∷ decimal (nat_abs z)
+signed_negative (pos n) h = absurd (omega (arith, ints))
+signed_negative (negsuc n) h = refl
 
-pub signed-positive : (z : ℤ) → pos 0 ≤ℤ z → signed_decimal z ≡ decimal (nat_abs z)
-signed-positive (pos n) h = refl
-signed-positive (negsuc n) h = absurd (omega (arith, ints))
+pub signed_positive : (z : ℤ) → pos 0 ≤ℤ z → signed_decimal z ≡ decimal (nat_abs z)
+signed_positive (pos n) h = refl
+signed_positive (negsuc n) h = absurd (omega (arith, ints))
 
 -- two digits for each byte
-pub length-hex : (bs : List ℕ) → length (flat_map hex_pair bs) ≡ 2 * length bs
-length-hex [] = refl
-length-hex (b ∷ bs) = let h = length-hex bs in omega arith
+pub length_hex : (bs : List ℕ) → length (flat_map hex_pair bs) ≡ 2 * length bs
+length_hex [] = refl
+length_hex (b ∷ bs) = let h = length_hex bs in omega arith

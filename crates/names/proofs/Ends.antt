@@ -46,5 +46,5 @@ last-at k ks (Some p) (q, g) =
     let e : q ≡ p = omega arith in
     (omega arith, ap (λ j. get_or ks j []) (sym e) ∙ g.2, λ j b l t. g.3 j (omega arith) l t)
 
-pub last-exactly : LastExactly
-last-exactly k ks = last-at k ks (last_place k ks) (at_last 0 k ks)
+pub last_exactly_lem : LastExactly
+last_exactly_lem k ks = last-at k ks (last_place k ks) (at_last 0 k ks)

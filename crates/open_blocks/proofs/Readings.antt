@@ -22,8 +22,8 @@ module _ (p : Place) (out xs : List ℕ) (i : ℕ) (h : i < length xs) where
   pub read_byte : (b : ℕ) → Byte b ≡ move_of p (get_or xs i 0) → bytes_from p out (drop i xs) ≡ bytes_from First (out ++ b ∷ []) (drop (i + 1) xs)
   read_byte b e = moved (Byte b) e
 
-  pub read-wrong : (f : LineFault) → Wrong f ≡ move_of p (get_or xs i 0) → bytes_from p out (drop i xs) ≡ Err f
-  read-wrong f e = moved (Wrong f) e
+  pub read_wrong : (f : LineFault) → Wrong f ≡ move_of p (get_or xs i 0) → bytes_from p out (drop i xs) ≡ Err f
+  read_wrong f e = moved (Wrong f) e
 
-pub read-end : (p : Place) (out xs : List ℕ) (i : ℕ) → length xs ≤ i → bytes_from p out (drop i xs) ≡ finished p out
-read-end p out xs i h = ap (bytes_from p out) (drop_all i xs h)
+pub read_end : (p : Place) (out xs : List ℕ) (i : ℕ) → length xs ≤ i → bytes_from p out (drop i xs) ≡ finished p out
+read_end p out xs i h = ap (bytes_from p out) (drop_all i xs h)

@@ -27,10 +27,10 @@ pair r p h = same-pair (r.span p.older) (r.span p.later) (r.resource p.older) (r
 module _ (r : Reading) (method : Pair r http_method http_request_method) (status : Pair r http_status_code http_response_status_code) (system : Pair r db_system db_system_name) (statement : Pair r db_statement db_query_text) (operation : Pair r messaging_operation messaging_operation_type) (destination : Pair r messaging_destination messaging_destination_name) (deployment : Pair r deployment_environment deployment_environment_name) where
   -- the operation name
   query : query_name (later r) ≡ query_name r
-  query = ap (λ t. if_given t (lowered t ++ codes ".query")) (sym system.of-span)
+  query = ap (λ t. if_given t (lowered t ++ codes ".query")) (sym system.of_span)
 
   messaging : messaging_name (later r) ≡ messaging_name r
-  messaging = ap (λ t. if_both (span_text r messaging_system) t (lowered (span_text r messaging_system) ++ (codes "." ++ lowered t))) (sym operation.of-span)
+  messaging = ap (λ t. if_both (span_text r messaging_system) t (lowered (span_text r messaging_system) ++ (codes "." ++ lowered t))) (sym operation.of_span)
 
   client : client_name (later r) ≡ client_name r
   client =
@@ -66,7 +66,7 @@ module _ (r : Reading) (method : Pair r http_method http_request_method) (status
   message : messaging_resource (later r) ≡ messaging_resource r
   message =
       ap (λ t. detailed t (res_span_text (later r) (messaging_destination ∷ messaging_destination_name ∷ []))) (sym operation.later_first)
-      ∙ ap (detailed (res_span_text r (messaging_operation_type ∷ messaging_operation ∷ []))) (sym destination.older-first)
+      ∙ ap (detailed (res_span_text r (messaging_operation_type ∷ messaging_operation ∷ []))) (sym destination.older_first)
 
   asked : asked_text (later r) ≡ asked_text r
   asked = sym statement.one_by_one
@@ -94,7 +94,7 @@ module _ (r : Reading) (method : Pair r http_method http_request_method) (status
   type = ap (λ t. or_else (span_text r datadog_type) (or_else (res_span_text r (typeKey ∷ [])) t)) (type-by-kind r.kind)
 
   env : field_environment (later r) ≡ field_environment r
-  env = ap (λ t. or_else (span_text r datadog_env) (or_else (res_span_text r (datadog_env ∷ [])) t)) (sym deployment.of-resource)
+  env = ap (λ t. or_else (span_text r datadog_env) (or_else (res_span_text r (datadog_env ∷ [])) t)) (sym deployment.of_resource)
 
   code : field_status_code (later r) ≡ field_status_code r
   code = ap (λ n. or_zero (or_number (code_under r datadog_http_status_code) n)) (sym status.number)
@@ -115,5 +115,5 @@ same-later a b h =
     let t = known-keys a.resource b.resource h.resource in
     rw (h.name, h.kind, s, t)
 
-pub derive-alike : (a b : Reading) → DeriveAlike a b
-derive-alike a b h p q = sym (once a p) ∙ ap fields (same-later a b h) ∙ once b q
+pub derive_alike_lem : (a b : Reading) → DeriveAlike a b
+derive_alike_lem a b h p q = sym (once a p) ∙ ap fields (same-later a b h) ∙ once b q

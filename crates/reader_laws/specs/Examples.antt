@@ -31,14 +31,14 @@ microsoft n = reading n Client (says db_system_name (codes "microsoft.sql_server
 
 -- of spans with any name n
 pub record WorkedExamples : Type 0 where
-  pub queried-name : (n : List ℕ) → (fields (queried n)).name ≡ codes "postgresql.query"
+  pub queried_name : (n : List ℕ) → (fields (queried n)).name ≡ codes "postgresql.query"
   -- the types go by the exact name
-  pub queried-type : (n : List ℕ) → (fields (queried n)).type ≡ codes "db"
-  pub served-name : (n : List ℕ) → (fields (served n)).name ≡ codes "http.server.request"
-  pub served-resource : (n : List ℕ) → (fields (served n)).resource ≡ codes "GET"
-  pub served-type : (n : List ℕ) → (fields (served n)).type ≡ codes "web"
+  pub queried_type : (n : List ℕ) → (fields (queried n)).type ≡ codes "db"
+  pub served_name : (n : List ℕ) → (fields (served n)).name ≡ codes "http.server.request"
+  pub served_resource : (n : List ℕ) → (fields (served n)).resource ≡ codes "GET"
+  pub served_type : (n : List ℕ) → (fields (served n)).type ≡ codes "web"
   -- an empty text on the span ends the walk over the keys
-  pub flashed-resource : (kind : SpanKind) → (fields (flashed kind)).resource ≡ codes "flash"
-  pub microsoft-type : (n : List ℕ) → (fields (microsoft n)).type ≡ codes "db"
-  pub microsoft-later-type : (n : List ℕ) → (fields (later_edition (microsoft n))).type ≡ codes "sql"
-  pub microsoft-later-name : (n : List ℕ) → (fields (later_edition (microsoft n))).name ≡ codes "mssql.query"
+  pub flashed_resource : (kind : SpanKind) → (fields (flashed kind)).resource ≡ codes "flash"
+  pub microsoft_type : (n : List ℕ) → (fields (microsoft n)).type ≡ codes "db"
+  pub microsoft_later_type : (n : List ℕ) → (fields (later_edition (microsoft n))).type ≡ codes "sql"
+  pub microsoft_later_name : (n : List ℕ) → (fields (later_edition (microsoft n))).name ≡ codes "mssql.query"

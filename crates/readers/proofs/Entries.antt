@@ -8,15 +8,15 @@ use Rattle.readers.specs.Texts.{or_absent}
 pub or_some : (o : Option (List ℕ)) (x d : List ℕ) → Some x ≡ o → x ≡ or_absent o d
 or_some o x d e = rw (← e)
 
-pub or-none : (o : Option (List ℕ)) (d : List ℕ) → None ≡ o → d ≡ or_absent o d
-or-none o d e = rw (← e)
+pub or_none : (o : Option (List ℕ)) (d : List ℕ) → None ≡ o → d ≡ or_absent o d
+or_none o d e = rw (← e)
 
 -- its texts are as short as the table's
-pub entry-within : (w : ℕ) (t : List ℕ) (ps : List Pair) (x : List ℕ) → within w ps ≡ true → Some x ≡ entry_for t ps → length x ≤ w
-entry-within w t [] x h e = let z : ◌≡◌ {A = ℕ} 0 1 = cc in absurd (omega arith)
-entry-within w t (p ∷ ps) x h e =
+pub entry_within : (w : ℕ) (t : List ℕ) (ps : List Pair) (x : List ℕ) → within w ps ≡ true → Some x ≡ entry_for t ps → length x ≤ w
+entry_within w t [] x h e = let z : ◌≡◌ {A = ℕ} 0 1 = cc in absurd (omega arith)
+entry_within w t (p ∷ ps) x h e =
     let a = and_parts (leb (length p.into) w) (within w ps) h in
     ⊎_elim
     (λ b. let f : Some x ≡ Some p.into = e ∙ cond-true _ _ _ b in let i : x ≡ p.into = cc in rw i (leb-true (length p.into) w a.0))
-    (λ b. entry-within w t ps x a.1 (e ∙ cond-false _ _ _ b))
+    (λ b. entry_within w t ps x a.1 (e ∙ cond-false _ _ _ b))
     (cases_Bool (bytes_eq p.from t))

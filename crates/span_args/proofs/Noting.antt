@@ -7,8 +7,8 @@ use Rattle.names.specs.Places.{noted}
 use Rattle.blocks.specs.Facts.{RowFact}
 use Rattle.span_args.specs.ReadingOf.{list_key}
 
-pub of-list : (l i : ℕ) (f : RowFact) (before after : List (Option ℕ)) → f.list ≡ l → after ≡ noted (option_map key_at (known f.key)) i before → after ≡ noted (option_map key_at (known (list_key l f))) i before
-of-list l i f before after e h =
+pub of_list_lem : (l i : ℕ) (f : RowFact) (before after : List (Option ℕ)) → f.list ≡ l → after ≡ noted (option_map key_at (known f.key)) i before → after ≡ noted (option_map key_at (known (list_key l f))) i before
+of_list_lem l i f before after e h =
     let k : list_key l f ≡ f.key = cond-true (eqb f.list l) _ _ (eq-eqb f.list l e) in
     h ∙ ap (λ x. noted (option_map key_at (known x)) i before) (sym k)
 

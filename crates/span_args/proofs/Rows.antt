@@ -8,8 +8,8 @@ use Rattle.std.proofs.lemmas.Bool.{cond-true, cond_both, lt-ltb, ltb-true, ltb-f
 use Rattle.std.proofs.lemmas.List.{length-map, get_or-map, take_all}
 use Rattle.names.specs.Keys.{keys, key_at, known}
 use Rattle.names.specs.Places.{or_else, noted, last_from, last_place, LastAt}
-use Rattle.names.proofs.Ends.{last-exactly}
-use Rattle.names.proofs.Lasts.{lasts-noted}
+use Rattle.names.proofs.Ends.{last_exactly_lem}
+use Rattle.names.proofs.Lasts.{lasts_noted}
 use Rattle.blocks.specs.Facts.{RowFact, facts, row_fact, row_facts}
 use Rattle.blocks.specs.Layout.{rows_in}
 use Rattle.blocks.proofs.Projected.{row-there, row-past}
@@ -22,9 +22,9 @@ row_is m i = cond_both (ltb i (rows_in m)) (Some (row_fact m i)) None (λ o. sli
 
 -- a function of the last place of a text that is not empty, and of the last row
 module _ (g : ℕ → RowFact) (l : ℕ) where
-  map-or : (a b : Option ℕ) → option_map g (or_else a b) ≡ or_row (option_map g a) (option_map g b)
-  map-or None b = refl
-  map-or (Some i) b = refl
+  map_or : (a b : Option ℕ) → option_map g (or_else a b) ≡ or_row (option_map g a) (option_map g b)
+  map_or None b = refl
+  map_or (Some i) b = refl
 
   map-cond : (t : Bool) (i : ℕ) → option_map g (cond t (Some i) None) ≡ cond t (Some (g i)) None
   map-cond true i = refl
@@ -39,34 +39,34 @@ module _ (g : ℕ → RowFact) (l : ℕ) where
   last zero i x k = refl
   last (suc n) i x k =
       let e : suc i ≡ i + 1 = omega arith in
-      map-or (last_from (suc i) (x ∷ k) (map (list_key l) (map g (range_with_len (i + 1) n)))) (cond (bytes_eq (list_key l (g i)) (x ∷ k)) (Some i) None)
+      map_or (last_from (suc i) (x ∷ k) (map (list_key l) (map g (range_with_len (i + 1) n)))) (cond (bytes_eq (list_key l (g i)) (x ∷ k)) (Some i) None)
       ∙ ap (λ o. or_row o (option_map g (cond (bytes_eq (list_key l (g i)) (x ∷ k)) (Some i) None))) (ap (λ j. option_map g (last_from j (x ∷ k) (map (list_key l) (map g (range_with_len (i + 1) n))))) e ∙ last n (i + 1) x k)
       ∙ ap (or_row (last_row_of l (x ∷ k) (map g (range_with_len (i + 1) n)))) (one (eqb (g i).list l) (g i).key i x k)
 
-length-counting : (n i : ℕ) → length (range_with_len i n) ≡ n
-length-counting zero i = refl
-length-counting (suc n) i = ap suc (length-counting n (i + 1))
+length_counting : (n i : ℕ) → length (range_with_len i n) ≡ n
+length_counting zero i = refl
+length_counting (suc n) i = ap suc (length_counting n (i + 1))
 
-get_or-counting : (n i j : ℕ) → j < n → get_or (range_with_len i n) j 0 ≡ i + j
-get_or-counting zero i j h = absurd (omega arith)
-get_or-counting (suc n) i zero h = omega arith
-get_or-counting (suc n) i (suc j) h = get_or-counting n (i + 1) j (omega arith) ∙ omega arith
+get_or_counting : (n i j : ℕ) → j < n → get_or (range_with_len i n) j 0 ≡ i + j
+get_or_counting zero i j h = absurd (omega arith)
+get_or_counting (suc n) i zero h = omega arith
+get_or_counting (suc n) i (suc j) h = get_or_counting n (i + 1) j (omega arith) ∙ omega arith
 
 -- the keys of the rows of a list
 abbrev pub list_keys : ℕ → List ℕ → List (List ℕ)
 list_keys l m = map (list_key l) (row_facts m)
 
 pub length-keys : (l : ℕ) (m : List ℕ) → length (list_keys l m) ≡ rows_in m
-length-keys l m = ap (λ xs. length (map (list_key l) xs)) (rows_mapped m) ∙ length-map (map (row_fact m) (range_with_len 0 (rows_in m))) (list_key l) ∙ length-map (range_with_len 0 (rows_in m)) (row_fact m) ∙ length-counting (rows_in m) 0
+length-keys l m = ap (λ xs. length (map (list_key l) xs)) (rows_mapped m) ∙ length-map (map (row_fact m) (range_with_len 0 (rows_in m))) (list_key l) ∙ length-map (range_with_len 0 (rows_in m)) (row_fact m) ∙ length_counting (rows_in m) 0
 
 pub key-at : (l : ℕ) (m : List ℕ) (i : ℕ) → i < rows_in m → get_or (list_keys l m) i [] ≡ list_key l (row_fact m i)
 key-at l m i h =
-    let c : i < length (range_with_len 0 (rows_in m)) = omega (arith, length-counting (rows_in m) 0) in
+    let c : i < length (range_with_len 0 (rows_in m)) = omega (arith, length_counting (rows_in m) 0) in
     let d : i < length (map (row_fact m) (range_with_len 0 (rows_in m))) = omega (arith, length-map (range_with_len 0 (rows_in m)) (row_fact m)) in
     let z : 0 + i ≡ i = omega arith in
     ap (λ xs. get_or (map (list_key l) xs) i []) (rows_mapped m)
     ∙ get_or-map (list_key l) (map (row_fact m) (range_with_len 0 (rows_in m))) i (row_fact m 0) [] d
-    ∙ ap (list_key l) (get_or-map (row_fact m) (range_with_len 0 (rows_in m)) i 0 (row_fact m 0) c ∙ ap (row_fact m) (get_or-counting (rows_in m) 0 i h ∙ z))
+    ∙ ap (list_key l) (get_or-map (row_fact m) (range_with_len 0 (rows_in m)) i 0 (row_fact m 0) c ∙ ap (row_fact m) (get_or_counting (rows_in m) 0 i h ∙ z))
 
 -- a row that was noted is there
 in_rows : (m k : List ℕ) (ks : List (List ℕ)) (o : Option ℕ) → length ks ≡ rows_in m → LastAt k ks o → row_in m o ≡ option_map (row_fact m) o
@@ -75,7 +75,7 @@ in_rows m k ks (Some i) e h = let lt : i < rows_in m = omega (arith, h.0) in con
 
 last_row : (l : ℕ) (m : List ℕ) (x : ℕ) (k : List ℕ) → row_in m (last_place (x ∷ k) (list_keys l m)) ≡ last_row_of l (x ∷ k) (row_facts m)
 last_row l m x k =
-    in_rows m (x ∷ k) (list_keys l m) (last_place (x ∷ k) (list_keys l m)) (length-keys l m) (last-exactly (x ∷ k) (list_keys l m))
+    in_rows m (x ∷ k) (list_keys l m) (last_place (x ∷ k) (list_keys l m)) (length-keys l m) (last_exactly_lem (x ∷ k) (list_keys l m))
     ∙ ap (λ xs. option_map (row_fact m) (last_place (x ∷ k) (map (list_key l) xs))) (rows_mapped m)
     ∙ last (row_fact m) l (rows_in m) 0 x k
     ∙ ap (last_row_of l (x ∷ k)) (sym (rows_mapped m))
@@ -116,7 +116,7 @@ noted-row l m i f before after h e b a =
     let s : Some f ≡ Some (row_fact m i) = e ∙ cond-true (ltb i (rows_in m)) _ _ (lt-ltb i (rows_in m) h) in
     let r : f ≡ row_fact m i = cc in
     let lt : i < length (list_keys l m) = omega (arith, length-keys l m) in
-    lasts-noted (list_keys l m) i (list_key l f) lt (key-at l m i h ∙ ap (list_key l) (sym r)) before after b a
+    lasts_noted (list_keys l m) i (list_key l f) lt (key-at l m i h ∙ ap (list_key l) (sym r)) before after b a
 
 pub no_row : (m : List ℕ) (i : ℕ) → i < rows_in m → None ≡ cond (ltb i (rows_in m)) (Some (row_fact m i)) None → ⊥
 no_row m i h e =

@@ -14,7 +14,7 @@ use Rattle.values.specs.Atoms.{Atom, Datum, flag, whole, double, words, single, 
 use Rattle.values.specs.Kinds.{kind_of, kind_number}
 use Rattle.values.specs.Format.{element, double_sized, words_sized, elements_past, elements_in, size_of, sizes_of, alone, alone_formed, atom_kind, datum_kind, datum_of, value_of}
 use Rattle.values.specs.Encoding.{bytes_alone, bytes_inside, encoding, Fitting, FittingInside, AllInside, FittingDatum, Encodes}
-use Rattle.values.proofs.Steps.{elements-next}
+use Rattle.values.proofs.Steps.{elements_next}
 
 -- an element whose sizes are right is there
 double-there : (b : List ℕ) (n : ℕ) → 0 < n → n ≤ 400 → 10 + n ≤ length b → double_sized b n ≡ Some record { atom = double (u64_in b 0) (portion b 10 n); size = 10 + n }
@@ -57,17 +57,17 @@ past : (x r : List ℕ) (n : ℕ) → length x ≡ n → rest (x ++ r) n ≡ r
 unfolding rest
 past x r n e = rw (← e) (drop-append_seam x r)
 
-elements-read : (k : ScalarKind) (xs : List Atom) → AllInside k xs → elements_in k (flat_map bytes_inside xs) ≡ xs
+elements_read : (k : ScalarKind) (xs : List Atom) → AllInside k xs → elements_in k (flat_map bytes_inside xs) ≡ xs
 unfolding elements_past elements_in
-elements-read k [] h = refl
-elements-read k (a ∷ xs) h =
+elements_read k [] h = refl
+elements_read k (a ∷ xs) h =
     let b : List ℕ = flat_map bytes_inside xs in
     let here : element k (bytes_inside a ++ b) ≡ Some record { atom = a; size = size_of a } = rw h.0 at (inside-read a b h.1) in
-    elements-next k (bytes_inside a ++ b) record { atom = a; size = size_of a } here ∙ ap (λ l. a ∷ l) (ap (elements_in k) (past (bytes_inside a) b (size_of a) (inside-size a)) ∙ elements-read k xs h.2)
+    elements_next k (bytes_inside a ++ b) record { atom = a; size = size_of a } here ∙ ap (λ l. a ∷ l) (ap (elements_in k) (past (bytes_inside a) b (size_of a) (inside-size a)) ∙ elements_read k xs h.2)
 
-sizes-read : (xs : List Atom) → sizes_of xs ≡ length (flat_map bytes_inside xs)
-sizes-read [] = refl
-sizes-read (a ∷ xs) = let i = sizes-read xs in let s = inside-size a in let l = length-append (bytes_inside a) (flat_map bytes_inside xs) in omega arith
+sizes_read : (xs : List Atom) → sizes_of xs ≡ length (flat_map bytes_inside xs)
+sizes_read [] = refl
+sizes_read (a ∷ xs) = let i = sizes_read xs in let s = inside-size a in let l = length-append (bytes_inside a) (flat_map bytes_inside xs) in omega arith
 
 -- a value by itself
 alone-read : (a : Atom) → Fitting a → (alone_formed (atom_kind a) (bytes_alone a) ≡ true) × (alone (atom_kind a) (bytes_alone a) ≡ a)
@@ -78,22 +78,22 @@ alone-read (whole z) h = (refl, ap whole (int8-ints8 z h))
 alone-read (double p t) h = (and_from _ _ (lt-ltb 8 (length (bytes8 p ++ t)) (let z = h.1 in omega arith)) (le-leb (length (bytes8 p ++ t)) 408 (let z = h.2 in omega arith)), ap (λ y. double y t) (le8-bytes8 p h.0))
 alone-read (words t) h = (refl, refl)
 
-kind-back : (k : ValueKind) → kind_of (kind_number k) ≡ Some k
-kind-back (Scalar KBool) = refl
-kind-back (Scalar KI64) = refl
-kind-back (Scalar KF64) = refl
-kind-back (Scalar KString) = refl
-kind-back (Array KBool) = refl
-kind-back (Array KI64) = refl
-kind-back (Array KF64) = refl
-kind-back (Array KString) = refl
+kind_back : (k : ValueKind) → kind_of (kind_number k) ≡ Some k
+kind_back (Scalar KBool) = refl
+kind_back (Scalar KI64) = refl
+kind_back (Scalar KF64) = refl
+kind_back (Scalar KString) = refl
+kind_back (Array KBool) = refl
+kind_back (Array KI64) = refl
+kind_back (Array KF64) = refl
+kind_back (Array KString) = refl
 
-datum-read : (d : Datum) → FittingDatum d → datum_of (Some (datum_kind d)) (encoding d) ≡ Some d
-datum-read (single a) h = let r = alone-read a h in rw (r.0, r.1)
-datum-read (several k xs) h =
-    let e = elements-read k xs h in
-    let s : sizes_of (elements_in k (flat_map bytes_inside xs)) ≡ length (flat_map bytes_inside xs) = ap sizes_of e ∙ sizes-read xs in
+datum_read : (d : Datum) → FittingDatum d → datum_of (Some (datum_kind d)) (encoding d) ≡ Some d
+datum_read (single a) h = let r = alone-read a h in rw (r.0, r.1)
+datum_read (several k xs) h =
+    let e = elements_read k xs h in
+    let s : sizes_of (elements_in k (flat_map bytes_inside xs)) ≡ length (flat_map bytes_inside xs) = ap sizes_of e ∙ sizes_read xs in
     rw (eq-eqb (sizes_of (elements_in k (flat_map bytes_inside xs))) (length (flat_map bytes_inside xs)) s, e)
 
 pub read_back : (n : ℕ) (b : List ℕ) (d : Datum) → Encodes n b d → value_of n b ≡ Some d
-read_back n b d e = rw (← e.kind, ← e.same) (ap (λ o. datum_of o (encoding d)) (kind-back (datum_kind d)) ∙ datum-read d e.fits)
+read_back n b d e = rw (← e.kind, ← e.same) (ap (λ o. datum_of o (encoding d)) (kind_back (datum_kind d)) ∙ datum_read d e.fits)

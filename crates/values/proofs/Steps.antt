@@ -20,9 +20,9 @@ none-sized : (b : List ℕ) → Sized b None
 unfolding Sized
 none-sized b = tt
 
-some-sized : (b : List ℕ) (e : Element) → 0 < e.size → e.size ≤ length b → size_of e.atom ≡ e.size → Sized b (Some e)
+some_sized : (b : List ℕ) (e : Element) → 0 < e.size → e.size ≤ length b → size_of e.atom ≡ e.size → Sized b (Some e)
 unfolding Sized
-some-sized b e p q r = (p, q, r)
+some_sized b e p q r = (p, q, r)
 
 unless : (t : Bool.Bool) (b : List ℕ) (o : Option Element) → (t ≡ false → Sized b o) → Sized b (cond t None o)
 unless true b o h = none-sized b
@@ -32,14 +32,14 @@ abbrev last-double : List ℕ → ℕ → Option Element
 last-double b n = cond (ltb (length b) (10 + n)) None (Some record { atom = double (u64_in b 0) (portion b 10 n); size = 10 + n })
 
 double-sized : (b : List ℕ) (n : ℕ) → Sized b (last-double b n)
-double-sized b n = unless (ltb (length b) (10 + n)) b _ (λ r. let z = ltb-false (length b) (10 + n) r in some-sized b record { atom = double (u64_in b 0) (portion b 10 n); size = 10 + n } (omega arith) z (ap (λ m. 10 + m) (length-portion b 10 n z)))
+double-sized b n = unless (ltb (length b) (10 + n)) b _ (λ r. let z = ltb-false (length b) (10 + n) r in some_sized b record { atom = double (u64_in b 0) (portion b 10 n); size = 10 + n } (omega arith) z (ap (λ m. 10 + m) (length-portion b 10 n z)))
 
 words-sized : (b : List ℕ) (n : ℕ) → Sized b (words_sized b n)
-words-sized b n = unless (ltb (length b) (2 + n)) b _ (λ r. let z = ltb-false (length b) (2 + n) r in some-sized b record { atom = words (portion b 2 n); size = 2 + n } (omega arith) z (ap (λ m. 2 + m) (length-portion b 2 n z)))
+words-sized b n = unless (ltb (length b) (2 + n)) b _ (λ r. let z = ltb-false (length b) (2 + n) r in some_sized b record { atom = words (portion b 2 n); size = 2 + n } (omega arith) z (ap (λ m. 2 + m) (length-portion b 2 n z)))
 
 sized : (k : ScalarKind) (b : List ℕ) → Sized b (element k b)
-sized Bool b = unless _ b _ (λ p. unless _ b _ (λ q. some-sized b _ (omega arith) (let z : length b ≡ 0 → ⊥ = eqb-false (length b) 0 p in omega arith) refl))
-sized I64 b = unless _ b _ (λ p. some-sized b _ (omega arith) (ltb-false (length b) 8 p) refl)
+sized Bool b = unless _ b _ (λ p. unless _ b _ (λ q. some_sized b _ (omega arith) (let z : length b ≡ 0 → ⊥ = eqb-false (length b) 0 p in omega arith) refl))
+sized I64 b = unless _ b _ (λ p. some_sized b _ (omega arith) (ltb-false (length b) 8 p) refl)
 sized F64 b =
     unless (eqb (u16_in b 8) 0) b (cond (ltb 400 (u16_in b 8)) None (last-double b (u16_in b 8))) (λ p. unless (ltb 400 (u16_in b 8)) b (last-double b (u16_in b 8)) (λ q. double-sized b (u16_in b 8)))
 sized String b = words-sized b (u16_in b 0)
@@ -55,15 +55,15 @@ past-rest k zero b = refl
 past-rest k (suc n) [] = refl
 past-rest k (suc n) (x ∷ b) = past-rest k n b
 
-pub elements-end : (k : ScalarKind) (b : List ℕ) → element k b ≡ None → elements_in k b ≡ []
+pub elements_end : (k : ScalarKind) (b : List ℕ) → element k b ≡ None → elements_in k b ≡ []
 unfolding elements_past elements_in
-elements-end k [] h = refl
-elements-end k (x ∷ b) h = ap (λ o. chained o (λ n. elements_past k n b)) h
+elements_end k [] h = refl
+elements_end k (x ∷ b) h = ap (λ o. chained o (λ n. elements_past k n b)) h
 
-pub elements-next : (k : ScalarKind) (b : List ℕ) (e : Element) → element k b ≡ Some e → elements_in k b ≡ e.atom ∷ elements_in k (rest b e.size)
+pub elements_next : (k : ScalarKind) (b : List ℕ) (e : Element) → element k b ≡ Some e → elements_in k b ≡ e.atom ∷ elements_in k (rest b e.size)
 unfolding elements_past elements_in
-elements-next k [] e h = let s = element-sized k [] e h in absurd (omega arith)
-elements-next k (x ∷ b) e h =
+elements_next k [] e h = let s = element-sized k [] e h in absurd (omega arith)
+elements_next k (x ∷ b) e h =
     let s = element-sized k (x ∷ b) e h in
     let n : suc (e.size - 1) ≡ e.size = omega arith in
     ap (λ o. chained o (λ n. elements_past k n b)) h ∙ ap (λ l. e.atom ∷ l) (past-rest k (suc (e.size - 1)) (x ∷ b) ∙ ap (λ m. elements_in k (rest (x ∷ b) m)) n)
@@ -72,17 +72,17 @@ elements-next k (x ∷ b) e h =
 pub falls : (k : ScalarKind) (b m : List ℕ) (e : Element) → Some e ≡ element k b → m ≡ rest b e.size → length m < length b
 falls k b m e h g = let s = element-sized k b e (sym h) in let l = length_rest b e.size in let x = ap length g in omega arith
 
-pub sizes-next : (k : ScalarKind) (b m : List ℕ) (e : Element) → Some e ≡ element k b → m ≡ rest b e.size → sizes_of (elements_in k b) + length m ≡ sizes_of (elements_in k m) + length b
-sizes-next k b m e h g =
+pub sizes_next : (k : ScalarKind) (b m : List ℕ) (e : Element) → Some e ≡ element k b → m ≡ rest b e.size → sizes_of (elements_in k b) + length m ≡ sizes_of (elements_in k m) + length b
+sizes_next k b m e h g =
     let s = element-sized k b e (sym h) in
     let l = length_rest b e.size in
     let x = ap length g in
-    let n = ap sizes_of (elements-next k b e (sym h)) in
+    let n = ap sizes_of (elements_next k b e (sym h)) in
     let y = ap (λ c. sizes_of (elements_in k c)) g in
     omega arith
 
-pub sizes-end : (k : ScalarKind) (b : List ℕ) → None ≡ element k b → sizes_of (elements_in k b) ≡ 0
-sizes-end k b h = ap sizes_of (elements-end k b (sym h))
+pub sizes_end : (k : ScalarKind) (b : List ℕ) → None ≡ element k b → sizes_of (elements_in k b) ≡ 0
+sizes_end k b h = ap sizes_of (elements_end k b (sym h))
 
 pub readable-next : (k : ScalarKind) (b : List ℕ) (e : Element) → Some e ≡ element k b → all_readable (elements_in k b) ≡ readable e.atom && all_readable (elements_in k (rest b e.size))
-readable-next k b e h = ap all_readable (elements-next k b e (sym h))
+readable-next k b e h = ap all_readable (elements_next k b e (sym h))

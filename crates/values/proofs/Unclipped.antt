@@ -11,13 +11,13 @@ use Rattle.values.specs.Faults.{datum_fault}
 use Rattle.values.specs.Laws.{CheckedIsNeverClipped}
 
 -- what the check leaves when it finds no fault
-last-test : (r l : Bool) → cond r (cond l None (Some TooLong)) (Some NotUtf8) ≡ None → l ≡ true
-last-test true true h = refl
-last-test true false h = let z : ◌≡◌ {A = ℕ} 0 1 = cc in absurd (omega arith)
-last-test false l h = let z : ◌≡◌ {A = ℕ} 0 1 = cc in absurd (omega arith)
+last_test : (r l : Bool) → cond r (cond l None (Some TooLong)) (Some NotUtf8) ≡ None → l ≡ true
+last_test true true h = refl
+last_test true false h = let z : ◌≡◌ {A = ℕ} 0 1 = cc in absurd (omega arith)
+last_test false l h = let z : ◌≡◌ {A = ℕ} 0 1 = cc in absurd (omega arith)
 
 short : (d : Datum) → datum_fault (Some d) ≡ None → length (display d) ≤ 4096
-short d h = leb-true (length (display d)) 4096 (last-test (datum_readable d) (leb (length (display d)) 4096) h)
+short d h = leb-true (length (display d)) 4096 (last_test (datum_readable d) (leb (length (display d)) 4096) h)
 
 -- no quotes, no longer text
 unquoted : (a : Atom) → length (atom_text false a) ≤ length (atom_text true a)
@@ -33,9 +33,9 @@ shorter f (a ∷ xs) =
     let i = shorter false xs in
     simp length-append (omega arith)
 
-dd-short : (d : Datum) → length (dd_string d) ≤ length (display d)
-dd-short (single a) = omega arith
-dd-short (several k xs) = let s = shorter true xs in omega arith
+dd_short : (d : Datum) → length (dd_string d) ≤ length (display d)
+dd_short (single a) = omega arith
+dd_short (several k xs) = let s = shorter true xs in omega arith
 
 by_number : (o : Option ℤ) (t : List ℕ) → length t ≤ 4096 → length (text_by_number o t) ≤ 4096
 by_number None t h = h
@@ -44,15 +44,15 @@ by_number (Some (pos (suc zero))) t h = omega arith
 by_number (Some (pos (suc (suc n)))) t h = h
 by_number (Some (negsuc n)) t h = h
 
-repr-short : (d : Datum) → length (display d) ≤ 4096 → length (string_repr d) ≤ 4096
-repr-short (single (flag b)) h = h
-repr-short (single (whole z)) h = h
-repr-short (single (double p t)) h = by_number (whole_of (of_bits binary64 p)) t h
-repr-short (single (words t)) h = h
-repr-short (several k xs) h = h
+repr_short : (d : Datum) → length (display d) ≤ 4096 → length (string_repr d) ≤ 4096
+repr_short (single (flag b)) h = h
+repr_short (single (whole z)) h = h
+repr_short (single (double p t)) h = by_number (whole_of (of_bits binary64 p)) t h
+repr_short (single (words t)) h = h
+repr_short (several k xs) h = h
 
-pub checked-is-never-clipped : CheckedIsNeverClipped
-checked-is-never-clipped n b d e h =
+pub checked_is_never_clipped_lem : CheckedIsNeverClipped
+checked_is_never_clipped_lem n b d e h =
     let l = short d (ap datum_fault (sym e) ∙ h) in
-    let m = dd-short d in
-    (clip-all 4096 (display d) l, clip-all 4096 (string_repr d) (repr-short d l), clip-all 4096 (dd_string d) (omega arith))
+    let m = dd_short d in
+    (clip-all 4096 (display d) l, clip-all 4096 (string_repr d) (repr_short d l), clip-all 4096 (dd_string d) (omega arith))

@@ -17,7 +17,7 @@ use Rattle.values.specs.Atoms.{Atom, Datum, double, words}
 use Rattle.values.specs.Kinds.{kind_of, kind_number}
 use Rattle.values.specs.Format.{Element, element, double_sized, words_sized, elements_in, sizes_of, alone, alone_formed, atom_kind, datum_kind, datum_in, datum_of, formed, value_of}
 use Rattle.values.specs.Encoding.{flag_bytes, bytes_alone, bytes_inside, encoding, Fitting, FittingInside, AllInside, FittingDatum, Encodes}
-use Rattle.values.proofs.Steps.{elements-next, elements-end, element-sized}
+use Rattle.values.proofs.Steps.{elements_next, elements_end, element-sized}
 
 whole-portion : (b : List ℕ) (n : ℕ) → length b ≡ n → portion b 0 n ≡ b
 unfolding portion
@@ -28,24 +28,24 @@ join : (m : List ℕ) (a n k : ℕ) → portion m a n ++ portion m (a + n) k ≡
 unfolding portion
 join m a n k = same_lists _ _ (search (rules, places)) (λ i d l. grind (arith, places))
 
-eight-back : (b : List ℕ) → 8 ≤ length b → Bytes b → bytes8 (u64_in b 0) ≡ portion b 0 8
-eight-back b l h = bytes8-le8 (portion b 0 8) (length-portion b 0 8 (omega arith)) (bytes-portion b 0 8 h)
+eight_back : (b : List ℕ) → 8 ≤ length b → Bytes b → bytes8 (u64_in b 0) ≡ portion b 0 8
+eight_back b l h = bytes8-le8 (portion b 0 8) (length-portion b 0 8 (omega arith)) (bytes-portion b 0 8 h)
 
 fits8 : (b : List ℕ) → Bytes b → Fits w64 (u64_in b 0)
 fits8 b h = record { fits = le8-fits (portion b 0 8) (bytes-portion b 0 8 h) }
 
-int-back : (b : List ℕ) → 8 ≤ length b → Bytes b → ints8 (i64_in b 0) ≡ portion b 0 8
-int-back b l h = ap bytes8 (of_z-to_z w64 (u64_in b 0) (fits8 b h)) ∙ eight-back b l h
+int_back : (b : List ℕ) → 8 ≤ length b → Bytes b → ints8 (i64_in b 0) ≡ portion b 0 8
+int_back b l h = ap bytes8 (of_z-to_z w64 (u64_in b 0) (fits8 b h)) ∙ eight_back b l h
 
 two_back : (b : List ℕ) (a : ℕ) → a + 2 ≤ length b → Bytes b → bytes2 (u16_in b a) ≡ portion b a 2
 two_back b a l h = bytes2-le2 (portion b a 2) (length-portion b a 2 l) (bytes-portion b a 2 h)
 
-flag-back : (b : List ℕ) → (length b ≡ 0 → ⊥) → get_or b 0 0 ≤ 1 → flag_bytes (eqb (get_or b 0 0) 1) ≡ portion b 0 1
+flag_back : (b : List ℕ) → (length b ≡ 0 → ⊥) → get_or b 0 0 ≤ 1 → flag_bytes (eqb (get_or b 0 0) 1) ≡ portion b 0 1
 unfolding portion
-flag-back [] n h = absurd (n refl)
-flag-back (zero ∷ b) n h = refl
-flag-back (suc zero ∷ b) n h = refl
-flag-back (suc (suc x) ∷ b) n h = absurd (omega arith)
+flag_back [] n h = absurd (n refl)
+flag_back (zero ∷ b) n h = refl
+flag_back (suc zero ∷ b) n h = refl
+flag_back (suc (suc x) ∷ b) n h = absurd (omega arith)
 
 -- an element that is read is the encoding of its scalar; shut, so that a test on the option is seen in it
 Written : ScalarKind → List ℕ → Option Element → Type 0
@@ -77,7 +77,7 @@ double-written b n h e =
     let l = ltb-false (length b) (10 + n) r in
     let size : length (portion b 10 n) ≡ n = length-portion b 10 n l in
     let same : bytes8 (u64_in b 0) ++ (bytes2 (length (portion b 10 n)) ++ portion b 10 n) ≡ portion b 0 (10 + n) =
-    ap (λ x. bytes8 (u64_in b 0) ++ (bytes2 x ++ portion b 10 n)) (size ∙ e) ∙ ap (λ x. bytes8 (u64_in b 0) ++ (x ++ portion b 10 n)) (two_back b 8 (omega arith) h) ∙ ap (λ x. x ++ (portion b 8 2 ++ portion b 10 n)) (eight-back b (omega arith) h) ∙ ap (λ x. portion b 0 8 ++ x) (join b 8 2 n) ∙ join b 0 8 (2 + n) ∙ ap (portion b 0) (ten n) in
+    ap (λ x. bytes8 (u64_in b 0) ++ (bytes2 x ++ portion b 10 n)) (size ∙ e) ∙ ap (λ x. bytes8 (u64_in b 0) ++ (x ++ portion b 10 n)) (two_back b 8 (omega arith) h) ∙ ap (λ x. x ++ (portion b 8 2 ++ portion b 10 n)) (eight_back b (omega arith) h) ∙ ap (λ x. portion b 0 8 ++ x) (join b 8 2 n) ∙ join b 0 8 (2 + n) ∙ ap (portion b 0) (ten n) in
     some_written KF64 b record { atom = double (u64_in b 0) (portion b 10 n); size = 10 + n } refl (le8-fits (portion b 0 8) (bytes-portion b 0 8 h), omega arith, omega arith) same)))
 
 words-written : (b : List ℕ) (n : ℕ) → Bytes b → n ≡ u16_in b 0 → Written KString b (words_sized b n)
@@ -90,8 +90,8 @@ words-written b n h e =
     some_written KString b record { atom = words (portion b 2 n); size = 2 + n } refl (omega arith) same)
 
 written : (k : ScalarKind) (b : List ℕ) → Bytes b → Written k b (element k b)
-written KBool b h = unless _ KBool b _ (λ p. unless _ KBool b _ (λ q. some_written KBool b _ refl tt (flag-back b (eqb-false (length b) 0 p) (ltb-false 1 (get_or b 0 0) q))))
-written KI64 b h = unless _ KI64 b _ (λ p. some_written KI64 b _ refl (to_z-Fits w64 (u64_in b 0) (fits8 b h)) (int-back b (ltb-false (length b) 8 p) h))
+written KBool b h = unless _ KBool b _ (λ p. unless _ KBool b _ (λ q. some_written KBool b _ refl tt (flag_back b (eqb-false (length b) 0 p) (ltb-false 1 (get_or b 0 0) q))))
+written KI64 b h = unless _ KI64 b _ (λ p. some_written KI64 b _ refl (to_z-Fits w64 (u64_in b 0) (fits8 b h)) (int_back b (ltb-false (length b) 8 p) h))
 written KF64 b h = double-written b (u16_in b 8) h refl
 written KString b h = words-written b (u16_in b 0) h refl
 
@@ -109,11 +109,11 @@ empty (x ∷ b) l = absurd (omega arith)
 
 one_more : (k : ScalarKind) (b : List ℕ) (o : Option Element) → element k b ≡ o → Bytes b → sizes_of (elements_in k b) ≡ length b → ((e : Element) → element k b ≡ Some e → Whole k (rest b e.size) (elements_in k (rest b e.size))) → Whole k b (elements_in k b)
 one_more k b None g h s later =
-    let n = elements-end k b g in
+    let n = elements_end k b g in
     let z : length b ≡ 0 = sym s ∙ ap sizes_of n in
     rw n (tt, empty b z)
 one_more k b (Some e) g h s later =
-    let n = elements-next k b e g in
+    let n = elements_next k b e g in
     let w = element-written k b e h g in
     let i = later e g in
     rw n ((w.0, w.1, i.0), ap (λ l. l ++ flat_map bytes_inside (elements_in k (rest b e.size))) w.2 ∙ ap (λ l. portion b 0 e.size ++ l) i.1 ∙ front_rest b e.size)
@@ -125,7 +125,7 @@ filled (suc m) k b l h s =
     one_more k b (element k b) refl h s (λ e g.
     let z = element-sized k b e g in
     let r = length_rest b e.size in
-    let n = ap sizes_of (elements-next k b e g) in
+    let n = ap sizes_of (elements_next k b e g) in
     filled m k (rest b e.size) (omega arith) (bytes_rest b e.size h) (omega arith))
 
 -- a value by itself
@@ -135,16 +135,16 @@ alone-written KBool b h f =
     let l = eqb-true (length b) 1 p.0 in
     let z : length b ≡ 0 → ⊥ = λ e. omega arith in
     let x = ltb-true (get_or b 0 0) 2 p.1 in
-    (refl, tt, flag-back b z (omega arith) ∙ whole-portion b 1 l)
+    (refl, tt, flag_back b z (omega arith) ∙ whole-portion b 1 l)
 alone-written KI64 b h f =
     let l = eqb-true (length b) 8 f in
-    (refl, to_z-Fits w64 (u64_in b 0) (fits8 b h), int-back b (omega arith) h ∙ whole-portion b 8 l)
+    (refl, to_z-Fits w64 (u64_in b 0) (fits8 b h), int_back b (omega arith) h ∙ whole-portion b 8 l)
 alone-written KF64 b h f =
     let p = and_parts (ltb 8 (length b)) _ f in
     let l = ltb-true 8 (length b) p.0 in
     let m = leb-true (length b) 408 p.1 in
     let r = length_rest b 8 in
-    (refl, (le8-fits (portion b 0 8) (bytes-portion b 0 8 h), omega arith, omega arith), ap (λ x. x ++ rest b 8) (eight-back b (omega arith) h) ∙ front_rest b 8)
+    (refl, (le8-fits (portion b 0 8) (bytes-portion b 0 8 h), omega arith, omega arith), ap (λ x. x ++ rest b 8) (eight_back b (omega arith) h) ∙ front_rest b 8)
 alone-written KString b h f = (refl, tt, refl)
 
 -- the number of a kind that has one

@@ -1,5 +1,5 @@
-use Rattle.keyed.proofs.Inserted.{inserted-in-order}
+use Rattle.keyed.proofs.Inserted.{inserted_in_order_lem}
 use Rattle.keyed.proofs.inserted_in_order.Goals as goal
 
 pub returns : goal.returns
-returns c = inserted-in-order
+returns c = inserted_in_order_lem

@@ -1,5 +1,5 @@
-use Rattle.reader_laws.proofs.Laws.{derive-alike}
+use Rattle.reader_laws.proofs.Laws.{derive_alike_lem}
 use Rattle.reader_laws.proofs.derive_alike.Goals as goal
 
 pub returns : goal.returns
-returns g c = derive-alike (g.A.OtelSpan.reading c.args.a.now) (g.B.OtelSpan.reading c.args.b.now)
+returns g c = derive_alike_lem (g.A.OtelSpan.reading c.args.a.now) (g.B.OtelSpan.reading c.args.b.now)

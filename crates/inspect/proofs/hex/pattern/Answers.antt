@@ -1,5 +1,5 @@
 use Rattle.std.proofs.Common.{sym, ◌∙◌, arith}
-use Rattle.inspect.proofs.Numerals.{room-more, room_fits, number_more, number-none, number-end, pattern_number}
+use Rattle.inspect.proofs.Numerals.{room-more, room_fits, number_more, number-none, number_end, pattern_number}
 use Rattle.inspect.proofs.hex.pattern.Goals as goal
 
 pub overflow_mul-number : goal.overflow_mul-number
@@ -24,5 +24,5 @@ loop-b-preserved c =
 
 pub returns : goal.returns
 returns c =
-    let e = number-end c.loop-b.number c.loop-b.b-index c.args.digits.now (omega arith) in
+    let e = number_end c.loop-b.number c.loop-b.b-index c.args.digits.now (omega arith) in
     sym (pattern_number c.args.digits.now c.if-digits-ne16.false ∙ (sym c.loop-b.invariant.1 ∙ e))

@@ -1,12 +1,12 @@
 use Rattle.std.proofs.Common.{vec_items, sym, ap, ◌∙◌, inr}
 use Rattle.notation.specs.Reading.{finished}
-use Rattle.notation.proofs.Readings.{read-into, read_byte, read-wrong, read-end}
+use Rattle.notation.proofs.Readings.{read-into, read_byte, read_wrong, read_end}
 use Rattle.notation.proofs.hex.read_bytes.Goals as goal
 use Rattle.notation.proofs.hex.read_bytes.Goals.{in-Into, in-Byte+in_ok-push-in-Byte}
 
 pub returns-in-Wrong : goal.returns-in-Wrong
 returns-in-Wrong c =
-    let e = read-wrong c.loop-b.place (vec_items c.loop-b.out) c.args.digits.now c.loop-b.b-index c.loop-b-test.true c.in-Wrong.fault c.in-Wrong.ensures in
+    let e = read_wrong c.loop-b.place (vec_items c.loop-b.out) c.args.digits.now c.loop-b.b-index c.loop-b-test.true c.in-Wrong.fault c.in-Wrong.ensures in
     inr (sym c.loop-b.invariant ∙ e)
 
 pub loop-b-preserved : goal.loop-b-preserved
@@ -20,11 +20,11 @@ loop-b-preserved c =
 pub returns-in-First : goal.returns-in-First
 returns-in-First c =
     let out = vec_items c.loop-b.out in
-    let e = read-end c.loop-b.place out c.args.digits.now c.loop-b.b-index c.loop-b-test.false in
+    let e = read_end c.loop-b.place out c.args.digits.now c.loop-b.b-index c.loop-b-test.false in
     sym c.loop-b.invariant ∙ (e ∙ ap (λ p. finished p out) c.in-First.is)
 
 pub returns-in-Second : goal.returns-in-Second
 returns-in-Second c =
     let out = vec_items c.loop-b.out in
-    let e = read-end c.loop-b.place out c.args.digits.now c.loop-b.b-index c.loop-b-test.false in
+    let e = read_end c.loop-b.place out c.args.digits.now c.loop-b.b-index c.loop-b-test.false in
     inr (sym c.loop-b.invariant ∙ (e ∙ ap (λ p. finished p out) c.in-Second.is))

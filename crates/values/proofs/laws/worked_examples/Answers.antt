@@ -1,5 +1,5 @@
-use Rattle.values.proofs.Examples.{worked-examples}
+use Rattle.values.proofs.Examples.{worked_examples_lem}
 use Rattle.values.proofs.laws.worked_examples.Goals as goal
 
 pub returns : goal.returns
-returns c = worked-examples
+returns c = worked_examples_lem

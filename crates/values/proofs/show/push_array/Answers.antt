@@ -1,7 +1,7 @@
 use Rattle.std.proofs.Common.{[], ◌++◌, sym, refl, ap, ◌∙◌, append_assoc}
 use Rattle.lent_bytes.proofs.Clips.{pushed_more, pushed_none, pushed-within}
 use Rattle.values.proofs.Steps.{falls}
-use Rattle.values.proofs.Commas.{listed_next, listed-end}
+use Rattle.values.proofs.Commas.{listed_next, listed_end}
 use Rattle.values.proofs.show.push_array.Goals as goal
 
 pub loop-element-smaller : goal.loop-element-smaller
@@ -22,5 +22,5 @@ returns c =
     let i = c.loop-element.invariant in
     let p = pushed_more _ _ _ _ _ _ _ _ i.1 c.push.ensures in
     let q = pushed_more _ _ _ _ _ _ _ _ c.push-at.ensures p in
-    let n = listed-end c.args.quotes c.loop-element.first c.args.array.kind c.loop-element.left.now c.in_default.ensures in
+    let n = listed_end c.args.quotes c.loop-element.first c.args.array.kind c.loop-element.left.now c.in_default.ensures in
     rw (← n, i.2) at q

@@ -1,4 +1,4 @@
-use Rattle.layer.proofs.Earlier.{read-filled, of-resource}
+use Rattle.layer.proofs.Earlier.{read-filled, of_resource}
 use Rattle.layer.proofs.later_edition.LaterEditionOtelSpan.get_res_attribute_opt.Goals as goal
 
 pub put_earlier-requires : goal.put_earlier-requires
@@ -6,5 +6,5 @@ put_earlier-requires g c = read-filled _ _ _ c.in_ok-n.ensures.size c.in_ok-n.en
 
 pub returns-then-is_database_key : goal.returns-then-is_database_key
 returns-then-is_database_key g c =
-    let p = of-resource _ _ _ _ _ _ c.if-is_database_key.ensures c.in_ok-n.ensures.size c.in_ok-n.ensures.text c.put_earlier.ensures in
+    let p = of_resource _ _ _ _ _ _ c.if-is_database_key.ensures c.in_ok-n.ensures.size c.in_ok-n.ensures.text c.put_earlier.ensures in
     record { size = p.0; text = p.1 }

@@ -1,5 +1,5 @@
 use Rattle.std.proofs.Common.{◌<◌, ◌≤◌, sym, refl, ap, ◌∙◌, arith}
-use Rattle.names.proofs.Lasts.{lasts-none}
+use Rattle.names.proofs.Lasts.{lasts_none}
 use Rattle.blocks.specs.Layout.{rows_in}
 use Rattle.blocks.specs.Facts.{fact_of}
 use Rattle.span_args.proofs.Rows.{noted-row, no_row, all-rows, read_by}
@@ -7,7 +7,7 @@ use Rattle.span_args.proofs.span_extract_args.SpanExtractArgs.new.Goals as goal
 use Rattle.span_args.proofs.span_extract_args.SpanExtractArgs.new.Goals.{in-Some, in_default}
 
 pub loop-i-init : goal.loop-i-init
-loop-i-init c = (c.default-span_attrs.ensures ∙ sym lasts-none, c.default-res_attrs.ensures ∙ sym lasts-none)
+loop-i-init c = (c.default-span_attrs.ensures ∙ sym lasts_none, c.default-res_attrs.ensures ∙ sym lasts_none)
 
 pub loop-i-preserved : goal.loop-i-preserved
 loop-i-preserved c =
