@@ -7,7 +7,7 @@ use Rattle.readers.specs.Texts.{or_else, or_absent, if_given, span_text, res_spa
 use Rattle.derived.specs.DatabaseTypes.{database_type}
 use Rattle.derived.specs.OperationName.{operation_name}
 use Rattle.derived.specs.ResourceName.{resource_name}
-use Rattle.readers.specs.Places.{datadog_service, datadog_name, datadog_env, datadog_resource, datadog_type, datadog_http_status_code, span_type as typeKey, db_system_name, db_system, service_name as serviceKey, deployment_environment_name, deployment_environment, http_response_status_code, http_status_code}
+use Rattle.readers.specs.Places.{datadog_service, datadog_name, datadog_env, datadog_resource, datadog_type, datadog_http_status_code, span_type as type_key, db_system_name, db_system, service_name as service_key, deployment_environment_name, deployment_environment, http_response_status_code, http_status_code}
 
 -- a client's type: by its database, if it has one
 abbrev pub client_type : List ℕ → List ℕ
@@ -22,14 +22,14 @@ type_by_kind r Consumer = codes "custom"
 type_by_kind r Internal = codes "custom"
 
 abbrev pub span_type : Reading → List ℕ
-span_type r = or_else (res_span_text r (typeKey ∷ [])) (type_by_kind r r.kind)
+span_type r = or_else (res_span_text r (type_key ∷ [])) (type_by_kind r r.kind)
 
 abbrev pub environment : Reading → List ℕ
 environment r = or_else (res_span_text r (datadog_env ∷ [])) (first_resource_text r (deployment_environment_name ∷ deployment_environment ∷ []))
 
 -- of the span before the resource
 abbrev pub service_name : Reading → List ℕ
-service_name r = or_else (span_text r serviceKey) (or_else (first_resource_text r (serviceKey ∷ [])) (codes "otlpresourcenoservicename"))
+service_name r = or_else (span_text r service_key) (or_else (first_resource_text r (service_key ∷ [])) (codes "otlpresourcenoservicename"))
 
 -- a number of 32 bits without a sign; another number is none
 abbrev pub narrowed : Option ℤ → Option ℕ

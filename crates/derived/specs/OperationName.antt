@@ -6,7 +6,7 @@ use Rattle.blocks.specs.declared.span_kind.SpanKind.{SpanKind}
 use Rattle.blocks.specs.declared.span_kind.SpanKind.TheVariants.{Internal, Server, Client, Producer, Consumer}
 use Rattle.readers.specs.Reading.{Reading, text_of}
 use Rattle.readers.specs.Texts.{or_absent, if_given, span_text, first_span_text}
-use Rattle.readers.specs.Places.{operation_name as nameKey, http_request_method, http_method, db_system, db_system_name, messaging_system, messaging_operation, messaging_operation_type, rpc_system, rpc_service, faas_invoked_provider, faas_invoked_name, faas_trigger, graphql_operation_type, network_protocol_name}
+use Rattle.readers.specs.Places.{operation_name as name_key, http_request_method, http_method, db_system, db_system_name, messaging_system, messaging_operation, messaging_operation_type, rpc_system, rpc_service, faas_invoked_provider, faas_invoked_name, faas_trigger, graphql_operation_type, network_protocol_name}
 
 abbrev pub lowered : List ℕ → List ℕ
 lowered t = map to_ascii_lowercase t
@@ -81,4 +81,4 @@ name_by_kind r Consumer = message_name r (codes "consumer")
 name_by_kind r Internal = or_absent (graphql_name r) (codes "internal")
 
 abbrev pub operation_name : Reading → List ℕ
-operation_name r = or_absent (text_of (r.span nameKey)) (name_by_kind r r.kind)
+operation_name r = or_absent (text_of (r.span name_key)) (name_by_kind r r.kind)

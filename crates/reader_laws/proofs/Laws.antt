@@ -9,7 +9,7 @@ use Rattle.readers.specs.Texts.{or_else, or_absent, if_given, span_text, res_spa
 use Rattle.derived.specs.OperationName.{lowered, if_both, is_http, query_name, messaging_name, rpc_client_name, rpc_server_name, invoked_name, triggered_name, graphql_name, request_name, client_name, server_name, name_by_kind}
 use Rattle.derived.specs.ResourceName.{beside, detailed, method_name, method_of, route_by, http_resource, messaging_resource, rpc_resource, graphql_resource, asked_text, only_if, database_resource, given_resource, resource_by_use}
 use Rattle.derived.specs.Fields.{client_type, type_by_kind, code_under, or_number, or_zero, own_text, field_name, field_resource, field_type, field_environment, field_status_code, fields}
-use Rattle.readers.specs.Places.{http_method, http_request_method, http_status_code, http_response_status_code, db_system, db_system_name, db_statement, db_query_text, messaging_system, messaging_operation, messaging_operation_type, messaging_destination, messaging_destination_name, deployment_environment, deployment_environment_name, datadog_name, datadog_resource, datadog_type, datadog_env, datadog_http_status_code, span_type as typeKey, operation_name as nameKey}
+use Rattle.readers.specs.Places.{http_method, http_request_method, http_status_code, http_response_status_code, db_system, db_system_name, db_statement, db_query_text, messaging_system, messaging_operation, messaging_operation_type, messaging_destination, messaging_destination_name, deployment_environment, deployment_environment_name, datadog_name, datadog_resource, datadog_type, datadog_env, datadog_http_status_code, span_type as type_key, operation_name as name_key}
 use Rattle.reader_laws.specs.Alike.{Names, renamings, in_later_names, Alike, UsedDoubly, NoneDoubly, DeriveAlike}
 use Rattle.reader_laws.proofs.Pairs.{SamePair, same-pair}
 
@@ -48,7 +48,7 @@ module _ (r : Reading) (method : Pair r http_method http_request_method) (status
   by_kind Internal = refl
 
   name : field_name (later r) ≡ field_name r
-  name = ap (λ t. or_absent (own_text r datadog_name) (or_absent (text_of (r.span nameKey)) t)) (by_kind r.kind)
+  name = ap (λ t. or_absent (own_text r datadog_name) (or_absent (text_of (r.span name_key)) t)) (by_kind r.kind)
 
   -- the resource name
   route : (k : SpanKind) → route_by (later r) k ≡ route_by r k
@@ -91,7 +91,7 @@ module _ (r : Reading) (method : Pair r http_method http_request_method) (status
   type-by-kind Internal = refl
 
   type : field_type (later r) ≡ field_type r
-  type = ap (λ t. or_else (span_text r datadog_type) (or_else (res_span_text r (typeKey ∷ [])) t)) (type-by-kind r.kind)
+  type = ap (λ t. or_else (span_text r datadog_type) (or_else (res_span_text r (type_key ∷ [])) t)) (type-by-kind r.kind)
 
   env : field_environment (later r) ≡ field_environment r
   env = ap (λ t. or_else (span_text r datadog_env) (or_else (res_span_text r (datadog_env ∷ [])) t)) (sym deployment.of_resource)
