@@ -1,4 +1,4 @@
-//! What holds of the definitions of this crate.
+//! What holds of the definitions of blocks.
 ghost use Rattle.block_laws.specs.Covered.{OwnedExactly};
 
 /// In a lawful block each attribute of an event or a link stands under exactly one, in order, and the events and

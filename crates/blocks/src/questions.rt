@@ -16,7 +16,7 @@ use crate::search::{Owner, Run, all, count_in, find, run_under};
 /// Why a question has no answer.
 #[derive(Clone, Copy, PartialEq, Eq, Debug)]
 pub enum QuestionFault {
-    /// There are not as many rows, attributes, events or links.
+    /// There are not as many attributes, events or links.
     NoSuchItem,
 }
 
