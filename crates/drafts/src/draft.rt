@@ -37,6 +37,7 @@ fn spend(token: Token) {
 }
 
 /// A span that is being recorded. It has to be ended or discarded: one that is forgotten is refused.
+#[derive(Drop)]
 pub struct Draft<'a> {
     mem: &'a mut [u8],
     token: Token,
