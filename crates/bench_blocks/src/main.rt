@@ -2,10 +2,11 @@
 //! times go to standard error, since they differ from run to run.
 #![tactic(auto)]
 
+use blocks::lists::List;
 use blocks::sdk_span::open;
-use lent_bytes::fields::{put_u16, put_u32};
-use lent_bytes::memory::write;
-use std::time::Instant;
+use lent_bytes::fields::Number;
+use lent_bytes::memory::{part, write};
+use timing::{PerByte, measure};
 
 /// A block of so many attributes in each of its three plain lists, with keys of equal length that
 /// differ in their last two bytes alone, so that each comparison goes to the end.
@@ -39,13 +40,19 @@ const SHAPES: [Shape; 4] = [
     },
 ];
 
-fn put_attribute(m: &mut [u8], i: u16, list: u8, text: u32, key: u16) {
+/// The lists that the rows belong to, in turn.
+const PLAIN_LISTS: [List; 3] = [List::Span, List::Resource, List::Scope];
+
+/// How often a block is opened.
+const TURNS: u32 = 200;
+
+fn put_attribute(m: &mut [u8], i: u16, list: List, text: u32, key: u16) {
     let at = 120 + 24 * i as usize;
-    write(m, at, &[list, 1]);
-    put_u16(m, at + 2, key);
-    put_u32(m, at + 4, text);
-    put_u32(m, at + 8, 8);
-    put_u32(m, at + 12, text.saturating_add(key as u32));
+    write(m, at, &[u8::from(list), 1]);
+    key.put(m, at + 2);
+    text.put(m, at + 4);
+    8u32.put(m, at + 8);
+    text.saturating_add(key as u32).put(m, at + 12);
 }
 
 /// Writes the block, and answers its length.
@@ -54,57 +61,45 @@ fn put_block(m: &mut [u8], shape: Shape) -> usize {
     let key = shape.key.min(255);
     let size = key as u32 + 8;
     let offset = 120 + 24 * rows as u32;
-    put_u16(m, 0, 1);
-    put_u16(m, 2, rows);
-    put_u32(m, 4, offset);
-    put_u16(m, 8, rows);
+    1u16.put(m, 0);
+    rows.put(m, 2);
+    offset.put(m, 4);
+    rows.put(m, 8);
     write(m, 10, &[2, 0]);
-    put_u32(m, 12, size * rows as u32);
+    (size * rows as u32).put(m, 12);
     write(m, 76, &[1]);
     for i in 0..rows {
-        put_attribute(m, i, (i % 3) as u8, size * i as u32, key);
+        put_attribute(m, i, PLAIN_LISTS[i as usize % 3], size * i as u32, key);
         let at = offset as usize + size as usize * i as usize;
-        for k in 0..key as usize {
-            write(m, at + k, b"k");
-        }
+        write(m, at, part(&[b'k'; 255], 0, key as usize));
         let last = [b'a' + (i / 26 % 26) as u8, b'a' + (i % 26) as u8];
         write(m, at + (key as usize).saturating_sub(2), &last);
     }
     offset as usize + size as usize * rows as usize
 }
 
-fn times_accepted(block: &[u8], turns: u32) -> u32 {
-    let mut accepted = 0u32;
-    for _ in 0..turns {
-        if open(block).is_ok() {
-            accepted = accepted.saturating_add(1);
-        }
-    }
-    accepted
+fn times_accepted(block: &[u8]) -> usize {
+    (0..TURNS).filter(|_| open(block).is_ok()).count()
 }
 
-fn measure(rt: &HostRuntime, shape: Shape) -> anyhow::Result<()> {
+fn print_shape(rt: &HostRuntime, shape: Shape) -> anyhow::Result<()> {
     let mut memory = vec![in rt.alloc(); 0u8; 65536]?;
-    let len = put_block(&mut memory[..], shape);
-    let block = lent_bytes::memory::part(&memory[..], 0, len);
-    let start = Instant::now(rt)?;
-    let accepted = times_accepted(block, 200);
-    let took = start.elapsed(rt)?.as_nanos() / 200;
+    let bytes = put_block(&mut memory[..], shape);
+    let block = part(&memory[..], 0, bytes);
+    let opened = measure(rt, TURNS, || times_accepted(block))?;
+    let accepted = opened.answer;
+    let nanos = opened.nanos;
     let name = shape.name;
     let rows = shape.each as u32 * 3;
-    println!(rt; "{name:<6} {len:>6} bytes, {rows:>3} rows: accepted {accepted} times")?;
-    let tenths = took * 10 / (len as u128).max(1);
-    let whole = tenths / 10;
-    let tenth = tenths % 10;
-    eprintln!(rt;
-        "{name:<6} {len:>6} bytes, {rows:>3} rows: {took:>8} ns, {whole}.{tenth} ns a byte"
-    )?;
+    println!(rt; "{name:<6} {bytes:>6} bytes, {rows:>3} rows: accepted {accepted} times")?;
+    let per_byte = PerByte { nanos, bytes };
+    eprintln!(rt; "{name:<6} {bytes:>6} bytes, {rows:>3} rows: {nanos:>8} ns, {per_byte}")?;
     Ok(())
 }
 
 fn main(rt: HostRuntime) -> anyhow::Result<()> {
     for shape in SHAPES {
-        measure(&rt, shape)?;
+        print_shape(&rt, shape)?;
     }
     Ok(())
 }

@@ -2,10 +2,12 @@
 //! which is compared; the times go to standard error, since they differ from run to run.
 #![tactic(auto)]
 
+use blocks::lists::List;
 use drafts::draft::Draft;
 use drafts::refusal::answer_number;
 use drafts::start::Start;
-use std::time::Instant;
+use timing::measure;
+use values::value::Scalar;
 
 /// A draft with so many events of so many attributes each, with keys of two bytes.
 #[derive(Clone, Copy)]
@@ -58,48 +60,49 @@ fn start_of() -> Start<'static> {
 }
 
 fn put_rows(draft: &mut Draft<'_>, shape: Shape) {
-    let _ = draft.set(0, b"last.profile", 3, b"track");
+    let _ = draft.set_value(List::Span, b"last.profile", Scalar::String(b"track"));
     for _ in 0..shape.events {
         let _ = draft.event(b"saved", 12);
         for i in 0..shape.each {
-            let _ = draft.set(4, &[b'a' + i / 16, b'a' + i % 16], 3, b"value");
+            let _ = draft.set_value(
+                List::EventAttribute,
+                &[b'a' + i / 16, b'a' + i % 16],
+                Scalar::String(b"value"),
+            );
         }
     }
 }
 
 /// How many of the sets of one attribute are applied.
-fn times_applied(draft: &mut Draft<'_>, list: u8, key: &[u8]) -> u32 {
-    let mut applied = 0u32;
-    for _ in 0..TURNS {
-        if answer_number(draft.set(list, key, 3, b"commuter")) == 0 {
-            applied = applied.saturating_add(1);
-        }
-    }
-    applied
+fn times_applied(draft: &mut Draft<'_>, list: List, key: &[u8]) -> usize {
+    (0..TURNS)
+        .filter(|_| answer_number(draft.set_value(list, key, Scalar::String(b"commuter"))) == 0)
+        .count()
 }
 
-fn measure_list(
+fn print_list(
     rt: &HostRuntime,
     draft: &mut Draft<'_>,
-    list: u8,
+    list: List,
     name: &str,
 ) -> anyhow::Result<()> {
-    let start = Instant::now(rt)?;
-    let applied = times_applied(draft, list, b"last.profile");
-    let took = start.elapsed(rt)?.as_nanos() / TURNS as u128;
+    let set = measure(rt, TURNS, || times_applied(draft, list, b"last.profile"))?;
+    let applied = set.answer;
+    let list = u8::from(list);
+    let nanos = set.nanos;
     println!(rt; "{name:<6} list {list}: applied {applied} times")?;
-    eprintln!(rt; "{name:<6} list {list}: {took:>7} ns a set")?;
+    eprintln!(rt; "{name:<6} list {list}: {nanos:>7} ns a set")?;
     Ok(())
 }
 
-fn measure(rt: &HostRuntime, shape: Shape) -> anyhow::Result<()> {
+fn print_shape(rt: &HostRuntime, shape: Shape) -> anyhow::Result<()> {
     let mut memory = vec![in rt.alloc(); 0u8; 65536]?;
     match Draft::start(&mut memory[..], &start_of()) {
         Ok(draft) => {
             let mut draft = draft;
             put_rows(&mut draft, shape);
-            let span = measure_list(rt, &mut draft, 0, shape.name);
-            let event = measure_list(rt, &mut draft, 4, shape.name);
+            let span = print_list(rt, &mut draft, List::Span, shape.name);
+            let event = print_list(rt, &mut draft, List::EventAttribute, shape.name);
             let span_of = draft.end(20);
             let rows = span_of.row_count();
             span?;
@@ -108,7 +111,7 @@ fn measure(rt: &HostRuntime, shape: Shape) -> anyhow::Result<()> {
             Ok(())
         }
         Err(refused) => {
-            let number = refused.fault.number();
+            let number = u8::from(refused.fault);
             println!(rt; "not started: {number}")?;
             Ok(())
         }
@@ -117,7 +120,7 @@ fn measure(rt: &HostRuntime, shape: Shape) -> anyhow::Result<()> {
 
 fn main(rt: HostRuntime) -> anyhow::Result<()> {
     for shape in SHAPES {
-        measure(&rt, shape)?;
+        print_shape(&rt, shape)?;
     }
     Ok(())
 }

@@ -2,16 +2,17 @@
 //! compared; the times go to standard error, since they differ from run to run.
 #![tactic(auto)]
 
+use blocks::lists::List;
 use blocks::sdk_span::SdkSpan;
 use derived::fields::{
     datadog_env, datadog_name, datadog_resource, datadog_service, datadog_status_code, datadog_type,
 };
-use lent_bytes::fields::{put_u16, put_u32};
+use lent_bytes::fields::Number;
 use lent_bytes::memory::{part, write};
 use names::attribute_keys::{DB_STATEMENT, DB_SYSTEM, attribute_keys};
 use readers::otel_util::OtelSpan;
 use span_args::span_extract_args::SpanExtractArgs;
-use std::time::Instant;
+use timing::measure;
 
 /// A block of a client: so many rows of unknown keys, half of them the resource's, and below them the
 /// database and a statement of so many bytes.
@@ -45,7 +46,7 @@ const TURNS: u32 = 1000;
 /// A row: its list, and where its key and its value, a string, stand.
 #[derive(Clone, Copy)]
 struct At {
-    list: u8,
+    list: List,
     key: u32,
     key_len: u16,
     value: u32,
@@ -54,11 +55,11 @@ struct At {
 
 fn put_row(m: &mut [u8], i: u16, row: At) {
     let at = 120 + 24 * i as usize;
-    write(m, at, &[row.list, 3]);
-    put_u16(m, at + 2, row.key_len);
-    put_u32(m, at + 4, row.key);
-    put_u32(m, at + 8, row.value_len);
-    put_u32(m, at + 12, row.value);
+    write(m, at, &[u8::from(row.list), 3]);
+    row.key_len.put(m, at + 2);
+    row.key.put(m, at + 4);
+    row.value_len.put(m, at + 8);
+    row.value.put(m, at + 12);
 }
 
 /// Writes the block, and answers its length.
@@ -67,20 +68,22 @@ fn put_block(m: &mut [u8], shape: Shape) -> usize {
     let rows = others + 2;
     let statement = shape.statement.min(4096);
     let offset = 120 + 24 * rows as u32;
-    put_u16(m, 0, 1);
-    put_u16(m, 2, rows);
-    put_u32(m, 4, offset);
-    put_u16(m, 8, rows);
+    1u16.put(m, 0);
+    rows.put(m, 2);
+    offset.put(m, 4);
+    rows.put(m, 8);
     write(m, 10, &[3, 0]);
     let text = offset as usize;
     write(m, text, b"db.systemPostgreSQLdb.statementsome.other.key");
-    for k in 0..statement as usize {
-        write(m, text + 45 + k, b"s");
-    }
-    put_u32(m, 12, 45 + statement);
+    write(m, text + 45, part(&[b's'; 4096], 0, statement as usize));
+    (45 + statement).put(m, 12);
     write(m, 76, &[1]);
     for i in 0..others {
-        let list = (i % 2) as u8;
+        let list = if i % 2 == 0 {
+            List::Span
+        } else {
+            List::Resource
+        };
         put_row(
             m,
             i,
@@ -97,7 +100,7 @@ fn put_block(m: &mut [u8], shape: Shape) -> usize {
         m,
         others,
         At {
-            list: 0,
+            list: List::Span,
             key: 0,
             key_len: 9,
             value: 9,
@@ -108,7 +111,7 @@ fn put_block(m: &mut [u8], shape: Shape) -> usize {
         m,
         others + 1,
         At {
-            list: 0,
+            list: List::Span,
             key: 19,
             key_len: 12,
             value: 45,
@@ -137,51 +140,52 @@ fn derive_all<S: OtelSpan>(span: &S, long: &mut [u8; 8200], short: &mut [u8; 409
     sum.saturating_add((datadog_status_code(span) != 0) as usize)
 }
 
-fn time_notes(rt: &HostRuntime, span: &SdkSpan<'_>) -> anyhow::Result<u128> {
-    let start = Instant::now(rt)?;
-    let mut kept = 0u32;
-    for _ in 0..TURNS {
-        let reader = SpanExtractArgs::new(span);
-        if reader.has_attr(DB_SYSTEM) && reader.has_attr(DB_STATEMENT) {
-            kept = kept.saturating_add(1);
-        }
-    }
-    println!(rt; "  noted the rows of both keys {kept} times")?;
-    Ok(start.elapsed(rt)?.as_nanos() / TURNS as u128)
+/// How often a reader has the rows of both keys.
+fn times_noted(span: &SdkSpan<'_>) -> usize {
+    (0..TURNS)
+        .filter(|_| {
+            let reader = SpanExtractArgs::new(span);
+            reader.has_attr(DB_SYSTEM) && reader.has_attr(DB_STATEMENT)
+        })
+        .count()
 }
 
-fn measure(rt: &HostRuntime, shape: Shape) -> anyhow::Result<()> {
+fn times_read<S: OtelSpan>(span: &S) -> usize {
+    let mut out = [0u8; 4096];
+    (0..TURNS).fold(0, |_, _| read_all(span, &mut out))
+}
+
+fn times_derived<S: OtelSpan>(span: &S) -> usize {
+    let mut long = [0u8; 8200];
+    let mut short = [0u8; 4096];
+    (0..TURNS).fold(0, |_, _| derive_all(span, &mut long, &mut short))
+}
+
+fn print_shape(rt: &HostRuntime, shape: Shape) -> anyhow::Result<()> {
     let mut memory = vec![in rt.alloc(); 0u8; 65536]?;
     let len = put_block(&mut memory[..], shape);
     let span = SdkSpan::of_ended(part(&memory[..], 0, len));
     let name = shape.name;
     println!(rt; "{name}: {len} bytes")?;
-    let notes = time_notes(rt, &span)?;
+    let noted = measure(rt, TURNS, || times_noted(&span))?;
+    println!(rt; "  noted the rows of both keys {} times", noted.answer)?;
     let reader = SpanExtractArgs::new(&span);
-    let mut long = [0u8; 8200];
-    let mut short = [0u8; 4096];
-    let start = Instant::now(rt)?;
-    let mut texts = 0usize;
-    for _ in 0..TURNS {
-        texts = read_all(&reader, &mut short);
-    }
-    let reading = start.elapsed(rt)?.as_nanos() / TURNS as u128;
-    let start = Instant::now(rt)?;
-    let mut derived = 0usize;
-    for _ in 0..TURNS {
-        derived = derive_all(&reader, &mut long, &mut short);
-    }
-    let fields = start.elapsed(rt)?.as_nanos() / TURNS as u128;
-    println!(rt; "  texts of {texts} bytes, fields of {derived}")?;
+    let read = measure(rt, TURNS, || times_read(&reader))?;
+    let derived = measure(rt, TURNS, || times_derived(&reader))?;
+    println!(rt;
+        "  texts of {} bytes, fields of {}",
+        read.answer, derived.answer
+    )?;
     eprintln!(rt;
-        "{name:<6} {len:>6} bytes: rows noted in {notes:>7} ns, all 86 texts read in {reading:>7} ns, six fields in {fields:>7} ns"
+        "{name:<6} {len:>6} bytes: rows noted in {:>7} ns, all 86 texts read in {:>7} ns, six fields in {:>7} ns",
+        noted.nanos, read.nanos, derived.nanos
     )?;
     Ok(())
 }
 
 fn main(rt: HostRuntime) -> anyhow::Result<()> {
     for shape in SHAPES {
-        measure(&rt, shape)?;
+        print_shape(&rt, shape)?;
     }
     Ok(())
 }

@@ -4,42 +4,43 @@
 #![tactic(auto)]
 
 use std::alloc::{AllocError, Global};
-use std::time::Instant;
+use timing::{PerByte, measure};
 use values::check::check;
+use values::kinds::{ScalarKind, ValueKind};
 use values::show::display_text;
 
 /// Values of one kind: `unit` over and over.
 #[derive(Clone, Copy)]
 struct Case {
     name: &'static str,
-    kind: u8,
+    kind: ValueKind,
     unit: &'static [u8],
 }
 
 const CASES: [Case; 5] = [
     Case {
         name: "string",
-        kind: 3,
+        kind: ValueKind::Scalar(ScalarKind::String),
         unit: b"abcdefgh",
     },
     Case {
         name: "bools",
-        kind: 4,
+        kind: ValueKind::Array(ScalarKind::Bool),
         unit: b"\x01\x00\x01\x01",
     },
     Case {
         name: "ints",
-        kind: 5,
+        kind: ValueKind::Array(ScalarKind::I64),
         unit: b"\x39\x30\x00\x00\x00\x00\x00\x00",
     },
     Case {
         name: "doubles",
-        kind: 6,
+        kind: ValueKind::Array(ScalarKind::F64),
         unit: b"\x00\x00\x00\x00\x00\x00\xf8\x3f\x03\x001.5",
     },
     Case {
         name: "strings",
-        kind: 7,
+        kind: ValueKind::Array(ScalarKind::String),
         unit: b"\x02\x00ab",
     },
 ];
@@ -54,41 +55,41 @@ fn repeated(heap: Global, unit: &[u8], size: usize) -> Result<Vec<u8>, AllocErro
     Ok(v)
 }
 
-/// Checks and shows the bytes `turns` times, and adds up the lengths of what is shown, or the numbers
+/// How often a value is checked and shown.
+const TURNS: u32 = 200;
+
+/// Checks and shows the bytes over and over, and adds up the lengths of what is shown, or the numbers
 /// of the refusals.
-fn work(kind: u8, bytes: &[u8], turns: u32) -> u64 {
+fn work(kind: ValueKind, bytes: &[u8]) -> u64 {
     let mut out = [0u8; 4096];
     let mut sum = 0u64;
-    for _ in 0..turns {
-        let n = match check(kind, bytes) {
+    for _ in 0..TURNS {
+        let n = match check(u8::from(kind), bytes) {
             Ok(value) => display_text(&value, &mut out) as u64,
-            Err(fault) => fault.number() as u64,
+            Err(fault) => u8::from(fault) as u64,
         };
         sum = sum.wrapping_add(n);
     }
     sum
 }
 
-fn measure(rt: &HostRuntime, case: Case, size: usize) -> anyhow::Result<()> {
-    let bytes = repeated(rt.alloc(), case.unit, size)?;
-    let turns = 200;
-    let start = Instant::now(rt)?;
-    let sum = work(case.kind, &bytes, turns);
-    let took = start.elapsed(rt)?.as_nanos() / 200;
+fn print_case(rt: &HostRuntime, case: Case, size: usize) -> anyhow::Result<()> {
+    let value = repeated(rt.alloc(), case.unit, size)?;
+    let worked = measure(rt, TURNS, || work(case.kind, &value))?;
+    let sum = worked.answer;
+    let nanos = worked.nanos;
     let name = case.name;
-    let len = bytes.len();
-    println!(rt; "{name:<8} {len:>6} bytes: {sum}")?;
-    let tenths = took * 10 / (len as u128).max(1);
-    let whole = tenths / 10;
-    let tenth = tenths % 10;
-    eprintln!(rt; "{name:<8} {len:>6} bytes: {took:>8} ns, {whole}.{tenth} ns a byte")?;
+    let bytes = value.len();
+    println!(rt; "{name:<8} {bytes:>6} bytes: {sum}")?;
+    let per_byte = PerByte { nanos, bytes };
+    eprintln!(rt; "{name:<8} {bytes:>6} bytes: {nanos:>8} ns, {per_byte}")?;
     Ok(())
 }
 
 fn main(rt: HostRuntime) -> anyhow::Result<()> {
     for case in CASES {
         for size in SIZES {
-            measure(&rt, case, size)?;
+            print_case(&rt, case, size)?;
         }
     }
     Ok(())

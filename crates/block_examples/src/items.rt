@@ -1,6 +1,6 @@
 //! Questions by list, and on the attributes of events and links.
 use crate::made::{Placed, put_header, put_row};
-use blocks::lists::{List, PlainList};
+use blocks::lists::{List, Owner, PlainList};
 use blocks::questions::QuestionFault;
 use blocks::row::Row;
 use blocks::sdk_span::SdkSpan;
@@ -33,14 +33,14 @@ fn put_items(m: &mut [u8]) {
 fn letter(answer: Result<Row<'_>, QuestionFault>) -> u8 {
     match answer {
         Ok(row) => byte(row.key, 0),
-        Err(fault) => fault.number(),
+        Err(fault) => u8::from(fault),
     }
 }
 
 fn count(answer: Result<u16, QuestionFault>) -> u16 {
     match answer {
         Ok(n) => n,
-        Err(fault) => fault.number() as u16,
+        Err(fault) => u8::from(fault) as u16,
     }
 }
 
@@ -67,13 +67,13 @@ fn events_and_attributes(rt: HostRuntime) {
     let mut m = [0u8; 500];
     put_items(&mut m);
     let span = SdkSpan::of_ended(&m);
-    assert_eq!(rt; letter(span.event(0)), b'c');
-    assert_eq!(rt; letter(span.event(2)), b'j');
-    assert_eq!(rt; letter(span.event(3)), 40);
-    assert_eq!(rt; count(span.event_attribute_count(0)), 2);
-    assert_eq!(rt; count(span.event_attribute_count(1)), 0);
-    assert_eq!(rt; count(span.event_attribute_count(2)), 2);
-    assert_eq!(rt; count(span.event_attribute_count(3)), 40);
+    assert_eq!(rt; letter(span.owner(Owner::Event, 0)), b'c');
+    assert_eq!(rt; letter(span.owner(Owner::Event, 2)), b'j');
+    assert_eq!(rt; letter(span.owner(Owner::Event, 3)), 40);
+    assert_eq!(rt; count(span.owned_count(Owner::Event, 0)), 2);
+    assert_eq!(rt; count(span.owned_count(Owner::Event, 1)), 0);
+    assert_eq!(rt; count(span.owned_count(Owner::Event, 2)), 2);
+    assert_eq!(rt; count(span.owned_count(Owner::Event, 3)), 40);
 }
 
 #[test]
@@ -81,13 +81,13 @@ fn attributes_under_events(rt: HostRuntime) {
     let mut m = [0u8; 500];
     put_items(&mut m);
     let span = SdkSpan::of_ended(&m);
-    assert_eq!(rt; letter(span.event_attribute(0, 0)), b'd');
-    assert_eq!(rt; letter(span.event_attribute(0, 1)), b'f');
-    assert_eq!(rt; letter(span.event_attribute(0, 2)), 40);
-    assert_eq!(rt; letter(span.event_attribute(1, 0)), 40);
-    assert_eq!(rt; letter(span.event_attribute(2, 1)), b'l');
-    assert_eq!(rt; letter(span.event_attribute(2, 2)), 40);
-    assert_eq!(rt; letter(span.event_attribute(3, 0)), 40);
+    assert_eq!(rt; letter(span.owned(Owner::Event, 0, 0)), b'd');
+    assert_eq!(rt; letter(span.owned(Owner::Event, 0, 1)), b'f');
+    assert_eq!(rt; letter(span.owned(Owner::Event, 0, 2)), 40);
+    assert_eq!(rt; letter(span.owned(Owner::Event, 1, 0)), 40);
+    assert_eq!(rt; letter(span.owned(Owner::Event, 2, 1)), b'l');
+    assert_eq!(rt; letter(span.owned(Owner::Event, 2, 2)), 40);
+    assert_eq!(rt; letter(span.owned(Owner::Event, 3, 0)), 40);
 }
 
 #[test]
@@ -95,12 +95,12 @@ fn links_and_ids(rt: HostRuntime) -> Result<(), Fail> {
     let mut m = [0u8; 500];
     put_items(&mut m);
     let span = SdkSpan::of_ended(&m);
-    assert_eq!(rt; count(span.link_attribute_count(0)), 1);
-    assert_eq!(rt; count(span.link_attribute_count(1)), 40);
-    assert_eq!(rt; letter(span.link_attribute(0, 0)), b'h');
-    assert_eq!(rt; letter(span.link_attribute(0, 1)), 40);
-    assert_eq!(rt; letter(span.link(1)), 40);
-    let Ok(link) = span.link(0) else {
+    assert_eq!(rt; count(span.owned_count(Owner::Link, 0)), 1);
+    assert_eq!(rt; count(span.owned_count(Owner::Link, 1)), 40);
+    assert_eq!(rt; letter(span.owned(Owner::Link, 0, 0)), b'h');
+    assert_eq!(rt; letter(span.owned(Owner::Link, 0, 1)), 40);
+    assert_eq!(rt; letter(span.owner(Owner::Link, 1)), 40);
+    let Ok(link) = span.owner(Owner::Link, 0) else {
         return Err(Fail::new("no link"));
     };
     let ids = link.link_ids();
@@ -117,7 +117,7 @@ fn nothing_in_an_empty_span(rt: HostRuntime) {
     assert_eq!(rt; span.count(List::Span), 0);
     assert_eq!(rt; letter(span.row(0).ok_or(QuestionFault::NoSuchItem)), 40);
     assert_eq!(rt; letter(span.attribute(PlainList::Span, 0)), 40);
-    assert_eq!(rt; letter(span.event(0)), 40);
-    assert_eq!(rt; count(span.event_attribute_count(0)), 40);
-    assert_eq!(rt; letter(span.link_attribute(0, 0)), 40);
+    assert_eq!(rt; letter(span.owner(Owner::Event, 0)), 40);
+    assert_eq!(rt; count(span.owned_count(Owner::Event, 0)), 40);
+    assert_eq!(rt; letter(span.owned(Owner::Link, 0, 0)), 40);
 }

@@ -1,6 +1,6 @@
 //! One below, at and above each limit.
 use crate::made::{Placed, put_header, put_row, refusal};
-use lent_bytes::fields::{put_u16, put_u32};
+use lent_bytes::fields::Number;
 use lent_bytes::memory::write;
 use std::test::Fail;
 
@@ -24,10 +24,10 @@ fn headers(rt: HostRuntime) {
     let mut m = [0u8; 200];
     put_header(&mut m, 0, 80);
     assert_eq!(rt; refusal(&m), (0, 0, 0));
-    put_u32(&mut m, 12, 81);
+    81u32.put(&mut m, 12);
     assert_eq!(rt; refusal(&m), (3, NONE, 0));
     put_header(&mut m, 0, 80);
-    put_u16(&mut m, 0, 2);
+    2u16.put(&mut m, 0);
     assert_eq!(rt; refusal(&m), (2, NONE, 0));
     put_header(&mut m, 0, 80);
     write(&mut m, 10, &[6]);
@@ -47,15 +47,15 @@ fn headers(rt: HostRuntime) {
 fn header_texts(rt: HostRuntime) {
     let mut m = [0u8; 400];
     put_header(&mut m, 0, 256);
-    put_u32(&mut m, 80, 1);
-    put_u32(&mut m, 84, 255);
+    1u32.put(&mut m, 80);
+    255u32.put(&mut m, 84);
     assert_eq!(rt; refusal(&m), (0, 0, 0));
-    put_u32(&mut m, 80, 2);
+    2u32.put(&mut m, 80);
     assert_eq!(rt; refusal(&m), (4, NONE, 1));
-    put_u32(&mut m, 80, 0);
-    put_u32(&mut m, 84, 256);
+    0u32.put(&mut m, 80);
+    256u32.put(&mut m, 84);
     assert_eq!(rt; refusal(&m), (4, NONE, 1));
-    put_u32(&mut m, 84, 255);
+    255u32.put(&mut m, 84);
     write(&mut m, 120, b"\xff");
     assert_eq!(rt; refusal(&m), (5, NONE, 1));
 }

@@ -1,9 +1,11 @@
 //! Questions on a span.
 use crate::made::{Placed, put_header, put_row};
-use blocks::lists::List;
+use blocks::faults::Part;
+use blocks::layout::raw_row;
+use blocks::lists::{List, Owner, PlainList, UnknownList};
 use blocks::sdk_span::SdkSpan;
 use blocks::span_kind::{SpanKind, StatusCode};
-use lent_bytes::fields::{put_i64, put_u32};
+use lent_bytes::fields::Number;
 use lent_bytes::memory::write;
 use std::test::Fail;
 
@@ -17,11 +19,11 @@ fn header_fields(rt: HostRuntime) {
         16,
         b"\0\0\0\0\0\0\0\x01\0\0\0\0\0\0\x01\0\0\0\0\0\0\0\0\x03\0\0\0\0\0\0\0\x04",
     );
-    put_i64(&mut m, 48, -5);
-    put_i64(&mut m, 56, 7);
-    put_u32(&mut m, 64, 8);
-    put_u32(&mut m, 68, 9);
-    put_u32(&mut m, 72, 10);
+    (-5i64).put(&mut m, 48);
+    7i64.put(&mut m, 56);
+    8u32.put(&mut m, 64);
+    9u32.put(&mut m, 68);
+    10u32.put(&mut m, 72);
     let span = SdkSpan::of_ended(&m);
     assert_eq!(rt; span.trace_id_high(), 1);
     assert_eq!(rt; span.trace_id_low(), 256);
@@ -40,8 +42,8 @@ fn header_fields(rt: HostRuntime) {
 // Five texts of two bytes, each a byte further on.
 fn put_texts(m: &mut [u8]) {
     for i in 0..5u32 {
-        put_u32(m, 80 + 8 * i as usize, i);
-        put_u32(m, 84 + 8 * i as usize, 2);
+        i.put(m, 80 + 8 * i as usize);
+        2u32.put(m, 84 + 8 * i as usize);
     }
 }
 
@@ -60,6 +62,9 @@ fn texts_and_rows(rt: HostRuntime) -> Result<(), Fail> {
     };
     put_row(&mut m, 0, row);
     write(&mut m, 144, b"abcdefghi");
+    let raw = raw_row(&m, 0);
+    assert!(rt; raw.key(&m) == b"ab".as_slice());
+    assert!(rt; raw.value(&m) == b"defg".as_slice());
     let span = SdkSpan::of_ended(&m);
     assert!(rt; span.name() == b"ab".as_slice());
     assert!(rt; span.trace_state() == b"bc".as_slice());
@@ -69,7 +74,7 @@ fn texts_and_rows(rt: HostRuntime) -> Result<(), Fail> {
     let Some(row) = span.row(0) else {
         return Err(Fail::new("no row"));
     };
-    assert_eq!(rt; List::from_number(row.list), Some(List::Resource));
+    assert_eq!(rt; List::try_from(row.list), Ok(List::Resource));
     assert_eq!(rt; row.kind, 3);
     assert!(rt; row.key == b"ab".as_slice());
     assert!(rt; row.value == b"defg".as_slice());
@@ -81,13 +86,17 @@ fn texts_and_rows(rt: HostRuntime) -> Result<(), Fail> {
 #[test]
 fn numbers_of_cases(rt: HostRuntime) {
     for n in 1..6u8 {
-        assert_eq!(rt; SpanKind::from_number(n).number(), n);
+        assert_eq!(rt; u8::from(SpanKind::from(n)), n);
     }
     for n in 0..3u8 {
-        assert_eq!(rt; StatusCode::from_number(n).number(), n);
+        assert_eq!(rt; u8::from(StatusCode::from(n)), n);
     }
-    assert_eq!(rt; SpanKind::from_number(0), SpanKind::Internal);
-    assert_eq!(rt; StatusCode::from_number(3), StatusCode::Unset);
-    assert_eq!(rt; List::LinkAttribute.number(), 6);
-    assert_eq!(rt; List::from_number(7), None);
+    assert_eq!(rt; SpanKind::from(0), SpanKind::Internal);
+    assert_eq!(rt; StatusCode::from(3), StatusCode::Unset);
+    assert_eq!(rt; u8::from(List::LinkAttribute), 6);
+    assert_eq!(rt; List::from(PlainList::Scope), List::Scope);
+    assert_eq!(rt; Owner::Link.list(), List::Link);
+    assert_eq!(rt; Owner::Event.owned(), List::EventAttribute);
+    assert_eq!(rt; u8::from(Part::Value), 3);
+    assert_eq!(rt; List::try_from(7), Err(UnknownList));
 }

@@ -1,19 +1,13 @@
 -- The rows as a list of facts, over a step.
-use Rattle.std.proofs.Common.{◌≡◌, ℕ, ◌+◌, ◌<◌, ◌≤◌, List, [], ◌∷◌, ◌++◌, map, length, get_or, set, sym, ap, ◌∙◌, ⊎_elim, arith}
+use Rattle.std.proofs.Common.{◌≡◌, ℕ, ◌+◌, ◌<◌, ◌≤◌, List, [], ◌∷◌, ◌++◌, map, set, sym, ap, ◌∙◌, ⊎_elim, arith}
 use Rattle.std.specs.List.{range_with_len}
 use Rattle.std.proofs.lemmas.Bool.{cases_eq}
 use Rattle.std.proofs.lemmas.List.FromFn.{length-map-range_with_len, get_or-map-range_with_len, map-range_with_len_more}
 use Rattle.std.proofs.lemmas.List.{same_lists, length-set, get_or-set_same, get_or-set_other}
 use Rattle.blocks.specs.Layout.{rows_in}
-use Rattle.blocks.specs.Facts.{RowFact, row_fact, row_facts}
+use Rattle.blocks.specs.Facts.{row_fact, row_facts}
 use Rattle.blocks.proofs.Projected.{rows_mapped}
 use Rattle.block_laws.proofs.Sound.{Sound, Step, row_step}
-
-pub length-rows : (m : List ℕ) → length (row_facts m) ≡ rows_in m
-length-rows m = ap length (rows_mapped m) ∙ length-map-range_with_len (row_fact m) 0 (rows_in m)
-
-pub get_or-rows : (m : List ℕ) (j : ℕ) (d : RowFact) → j < rows_in m → get_or (row_facts m) j d ≡ row_fact m j
-get_or-rows m j d h = ap (λ xs. get_or xs j d) (rows_mapped m) ∙ get_or-map-range_with_len (row_fact m) 0 (rows_in m) j j d h (omega arith)
 
 -- the rows up to n that both have
 module _ (m m' : List ℕ) (n : ℕ) (e : (i : ℕ) → i < n → row_fact m' i ≡ row_fact m i) where

@@ -1,19 +1,17 @@
 -- What the search finds, in the words of the projections.
-use Rattle.std.proofs.Common.{◌≡◌, ℕ, zero, suc, ◌+◌, ◌-◌, ◌<◌, ◌≤◌, Bool, true, false, cond, List, [], ◌∷◌, map, length, Some, None, filter, unwrap_or, sym, refl, ap, ◌∙◌, arith}
+use Rattle.std.proofs.Common.{◌≡◌, ℕ, zero, suc, ◌+◌, ◌-◌, ◌<◌, ◌≤◌, Bool, true, false, cond, List, [], ◌∷◌, map, length, get_or, Some, None, filter, unwrap_or, sym, refl, ap, ◌∙◌, arith}
 use Rattle.std.specs.Option.{option_map}
 use Rattle.std.specs.List.{range_with_len, slice_get}
 use Rattle.std.proofs.lemmas.List.{length-map}
-use Rattle.std.proofs.lemmas.Option.{slice_get-get_or, slice_get_past}
+use Rattle.std.proofs.lemmas.Option.{slice_get-get_or, slice_get_past, slice_get-map}
 use Rattle.std.proofs.lemmas.List.FromFn.{length-map-range_with_len, get_or-map-range_with_len}
+use Rattle.blocks.specs.declared.lists.Owner.{Owner}
+use Rattle.blocks.specs.declared.lists.Owner.TheVariants.{Event, Link}
 use Rattle.blocks.specs.Layout.{rows_in}
+use Rattle.blocks.specs.Lists.{owner_list, owned_list}
 use Rattle.blocks.specs.Facts.{RowFact, row_fact, facts_from, row_facts}
 use Rattle.blocks.specs.Places.{is_of, places_of, rows_from, attributes_of}
-use Rattle.blocks.specs.Projections.{in_list, of_list, up_to, Owned, owning, nth_head}
-
-pub nth_map : {X Y : Type 0} (f : X → Y) (xs : List X) (n : ℕ) → slice_get (map f xs) n ≡ option_map f (slice_get xs n)
-nth_map f [] n = refl
-nth_map f (x ∷ xs) zero = refl
-nth_map f (x ∷ xs) (suc n) = nth_map f xs n
+use Rattle.blocks.specs.Projections.{in_list, of_list, up_to, Owned, owning, owned_by, nth_head}
 
 map-cond : {X Y : Type 0} (f : X → Y) (b : Bool) (x : X) (xs : List X) (ys : List Y) → ys ≡ map f xs → cond b (f x ∷ ys) ys ≡ map f (cond b (x ∷ xs) xs)
 map-cond f true x xs ys e = ap (λ zs. f x ∷ zs) e
@@ -29,7 +27,7 @@ unfolding of_list rows_from places_of
 list-places m l i n = kept_map (row_fact m) (in_list l) (range_with_len i n)
 
 pub nth_list : (m : List ℕ) (l i n k : ℕ) → slice_get (of_list l (rows_from m i n)) k ≡ option_map (row_fact m) (slice_get (places_of m l i n) k)
-nth_list m l i n k = ap (λ xs. slice_get xs k) (list-places m l i n) ∙ nth_map (row_fact m) (places_of m l i n) k
+nth_list m l i n k = ap (λ xs. slice_get xs k) (list-places m l i n) ∙ slice_get-map (row_fact m) (places_of m l i n) k
 
 pub length-list : (m : List ℕ) (l i n : ℕ) → length (places_of m l i n) ≡ length (of_list l (rows_from m i n))
 length-list m l i n = sym (ap length (list-places m l i n) ∙ length-map (places_of m l i n) (row_fact m))
@@ -44,6 +42,12 @@ facts_mapped m i (suc n) =
 
 pub rows_mapped : (m : List ℕ) → row_facts m ≡ map (row_fact m) (range_with_len 0 (rows_in m))
 rows_mapped m = facts_mapped m 0 (rows_in m)
+
+pub length-rows : (m : List ℕ) → length (row_facts m) ≡ rows_in m
+length-rows m = ap length (rows_mapped m) ∙ length-map-range_with_len (row_fact m) 0 (rows_in m)
+
+pub get_or-rows : (m : List ℕ) (j : ℕ) (d : RowFact) → j < rows_in m → get_or (row_facts m) j d ≡ row_fact m j
+get_or-rows m j d h = ap (λ xs. get_or xs j d) (rows_mapped m) ∙ get_or-map-range_with_len (row_fact m) 0 (rows_in m) j j d h (omega arith)
 
 pub whole : (m : List ℕ) → rows_from m 0 (rows_in m - 0) ≡ row_facts m
 unfolding rows_from
@@ -68,8 +72,12 @@ unfolding owning of_list
 heads h a [] = refl
 heads h a (r ∷ rs) = heads-cond (in_list h r) r _ (owning h a rs) _ (heads h a rs)
 
-pub nth_head_lem : (h a : ℕ) (rows : List RowFact) (n : ℕ) → slice_get (of_list h rows) n ≡ nth_head (owning h a rows) n
-nth_head_lem h a rows n = ap (λ xs. slice_get xs n) (sym (heads h a rows)) ∙ nth_map (λ (o : Owned). o.head) (owning h a rows) n
+nth-head : (h a : ℕ) (rows : List RowFact) (n : ℕ) → slice_get (of_list h rows) n ≡ nth_head (owning h a rows) n
+nth-head h a rows n = ap (λ xs. slice_get xs n) (sym (heads h a rows)) ∙ slice_get-map (λ (o : Owned). o.head) (owning h a rows) n
+
+pub nth_owner : (o : Owner) (rows : List RowFact) (n : ℕ) → slice_get (of_list (owner_list o) rows) n ≡ nth_head (owned_by o rows) n
+nth_owner Event rows n = nth-head 3 4 rows n
+nth_owner Link rows n = nth-head 5 6 rows n
 
 -- a place lies behind where the search began
 low-cond : (b : Bool) (i d k : ℕ) (xs : List ℕ) → ((k : ℕ) → i + 1 ≤ unwrap_or (slice_get xs k) d) → i ≤ unwrap_or (slice_get (cond b (i ∷ xs) xs) k) d
@@ -118,10 +126,18 @@ owning-whole : (m : List ℕ) (h a k : ℕ) → slice_get (owning h a (row_facts
 owning-whole m h a k = ap (λ rs. slice_get (owning h a rs) k) (sym (whole m)) ∙ owning-at m h a (rows_in m - 0) 0 (rows_in m) k (omega arith)
 
 -- what stands under the k-th owner
-pub under_none : (m : List ℕ) (h a k : ℕ) → None ≡ slice_get (places_of m h 0 (rows_in m - 0)) k → None ≡ option_map attributes_of (slice_get (owning h a (row_facts m)) k)
-under_none m h a k e = sym (ap (option_map attributes_of) (owning-whole m h a k ∙ ap (option_map (owned_at m h a (rows_in m))) (sym e)))
+under-none : (m : List ℕ) (h a k : ℕ) → None ≡ slice_get (places_of m h 0 (rows_in m - 0)) k → None ≡ option_map attributes_of (slice_get (owning h a (row_facts m)) k)
+under-none m h a k e = sym (ap (option_map attributes_of) (owning-whole m h a k ∙ ap (option_map (owned_at m h a (rows_in m))) (sym e)))
 
-pub under_run : (m : List ℕ) (h a k j t : ℕ) → j < rows_in m → Some j ≡ slice_get (places_of m h 0 (rows_in m - 0)) k → t ≡ unwrap_or (slice_get (places_of m h (j + 1) (rows_in m - (j + 1))) 0) (rows_in m) → Some (of_list a (rows_from m (j + 1) (t - (j + 1)))) ≡ option_map attributes_of (slice_get (owning h a (row_facts m)) k)
-under_run m h a k j t l e f =
+under-run : (m : List ℕ) (h a k j t : ℕ) → j < rows_in m → Some j ≡ slice_get (places_of m h 0 (rows_in m - 0)) k → t ≡ unwrap_or (slice_get (places_of m h (j + 1) (rows_in m - (j + 1))) 0) (rows_in m) → Some (of_list a (rows_from m (j + 1) (t - (j + 1)))) ≡ option_map attributes_of (slice_get (owning h a (row_facts m)) k)
+under-run m h a k j t l e f =
     let u = up_to_run m h (rows_in m - (j + 1)) (j + 1) (rows_in m) (omega arith) ∙ ap (λ x. rows_from m (j + 1) (x - (j + 1))) (sym f) in
     sym (ap (option_map attributes_of) (owning-whole m h a k ∙ ap (option_map (owned_at m h a (rows_in m))) (sym e)) ∙ ap (λ rs. Some (of_list a rs)) u)
+
+pub under_none : (m : List ℕ) (o : Owner) (k : ℕ) → None ≡ slice_get (places_of m (owner_list o) 0 (rows_in m - 0)) k → None ≡ option_map attributes_of (slice_get (owned_by o (row_facts m)) k)
+under_none m Event k e = under-none m 3 4 k e
+under_none m Link k e = under-none m 5 6 k e
+
+pub under_run : (m : List ℕ) (o : Owner) (k j t : ℕ) → j < rows_in m → Some j ≡ slice_get (places_of m (owner_list o) 0 (rows_in m - 0)) k → t ≡ unwrap_or (slice_get (places_of m (owner_list o) (j + 1) (rows_in m - (j + 1))) 0) (rows_in m) → Some (of_list (owned_list o) (rows_from m (j + 1) (t - (j + 1)))) ≡ option_map attributes_of (slice_get (owned_by o (row_facts m)) k)
+under_run m Event k j t l e f = under-run m 3 4 k j t l e f
+under_run m Link k j t l e f = under-run m 5 6 k j t l e f

@@ -1,29 +1,35 @@
 -- Loops over rows.
-use Rattle.std.proofs.Common.{◌≡◌, ℕ, zero, suc, ◌+◌, ◌-◌, ◌<◌, ◌≤◌, Bool, true, false, cond, ◌||◌, List, [], ◌∷◌, get_or, is_some, Some, None, Option, sym, refl, ap, ◌∙◌, arith}
-use Rattle.std.proofs.lemmas.Bool.{false≢true}
+use Rattle.std.proofs.Common.{◌≡◌, ℕ, zero, suc, ◌+◌, ◌-◌, ◌<◌, ◌≤◌, Bool, true, false, cond, List, [], ◌∷◌, length, get_or, is_some, Some, None, Decides, Option, sym, refl, ap, ◌∙◌, subst, ⊎_elim, MatchBool, arith}
+use Rattle.std.specs.List.{range_with_len, HoldsAt, AllWithin}
+use Rattle.std.proofs.lemmas.Bool.{false≢true, cases_Bool}
+use Rattle.std.proofs.lemmas.List.FromFn.{length-range_with_len, get_or-range_with_len}
 use Rattle.blocks.specs.First.{or_else, first_from}
-use Rattle.std.proofs.lemmas.Bool.Decides.{nat_tests}
+use Rattle.std.proofs.lemmas.Bool.Decides.{nat_tests, Decides-below_or}
 use Rattle.blocks.specs.declared.lists.List.{List as ListCase}
 use Rattle.blocks.specs.declared.lists.List.TheVariants.{Span, Resource, Scope, Event, EventAttribute, Link, LinkAttribute}
 use Rattle.blocks.specs.Lists.{list_number}
 use Rattle.blocks.specs.Layout.{Row}
 use Rattle.blocks.specs.Faults.{list_in, resource_key, said, above, aboves, counted_all, list_fault, list_fault_by, FewRows, content_fault, row_fault}
 
--- one row further up
-said-next : (m k : List ℕ) (j : ℕ) → 0 < j → said m k j ≡ resource_key m k (j - 1) || said m k (j - 1)
+-- a resource key is said where a row above has it
+said_by : (m k : List ℕ) (i : ℕ) → Decides (said m k i) ((j : ℕ) × (j < i) × (resource_key m k j ≡ true))
 unfolding said
-said-next m k zero h = absurd (omega arith)
-said-next m k (suc j) h = let e : suc j - 1 ≡ j = omega arith in rw e
+said_by m k i = Decides-below_or (resource_key m k) (λ j. resource_key m k j ≡ true) (said m k) (λ j. (λ e. e, λ e. e)) refl (λ n. refl) i
 
-pub said-hit : (m k : List ℕ) (j : ℕ) → 0 < j → resource_key m k (j - 1) ≡ true → said m k j ≡ true
-said-hit m k j h e = said-next m k j h ∙ ap (λ t. t || said m k (j - 1)) e
+has_key : (m k : List ℕ) (i j : ℕ) (b : Bool) → j < i → resource_key m k (get_or (range_with_len 0 i) j 0) ≡ b → resource_key m k j ≡ b
+has_key m k i j b lt e = let z : 0 + j ≡ j = omega arith in subst (λ x. resource_key m k x ≡ b) (get_or-range_with_len 0 i j 0 lt ∙ z) e
 
-pub said_miss : (m k : List ℕ) (j : ℕ) → 0 < j → resource_key m k (j - 1) ≡ false → said m k j ≡ said m k (j - 1)
-said_miss m k j h e = said-next m k j h ∙ ap (λ t. t || said m k (j - 1)) e
-
-pub said-none : (m k : List ℕ) → said m k 0 ≡ false
-unfolding said
-said-none m k = refl
+pub said_any : (m k : List ℕ) (i : ℕ) (r : Bool) → MatchBool r ((j : ℕ) × (j < length (range_with_len 0 i)) × HoldsAt (λ x. resource_key m k x ≡ true) (range_with_len 0 i) j) (AllWithin (λ x. resource_key m k x ≡ false) (range_with_len 0 i) 0 (length (range_with_len 0 i))) → r ≡ said m k i
+said_any m k i true h = let n = length-range_with_len 0 i in let lt = h.1 in let a : h.0 < i = omega arith in sym ((said_by m k i).1 (h.0, a, has_key m k i h.0 true a (h.2 0)))
+said_any m k i false h =
+    ⊎_elim
+    (λ t.
+    let q = (said_by m k i).0 t in
+    let n = length-range_with_len 0 i in
+    let lt = q.1 in
+    absurd (false≢true (sym (has_key m k i q.0 false q.1 (h q.0 0 (omega arith) (omega arith))) ∙ q.2)))
+    (λ f. sym f)
+    (cases_Bool (said m k i))
 
 hit : {E : Type 0} (a b : Option E) → is_some a ≡ true → or_else a b ≡ a
 hit None b e = absurd (false≢true e)

@@ -87,6 +87,9 @@ longest_key l = cond (l == 5) 512 255
 abbrev pub key_in : List ℕ → Row → List ℕ
 key_in m r = text_in m r.key_place r.key_length
 
+abbrev pub value_in : List ℕ → Row → List ℕ
+value_in m r = text_in m r.value_place r.value_length
+
 abbrev pub key_fault : List ℕ → ℕ → Row → Option RowFault
 key_fault m l r = cond (nat_le (least_key l) r.key_length && within m r.key_place r.key_length (longest_key l)) (cond (is_text (key_in m r)) None (Some KeyNotUtf8)) (Some Key)
 

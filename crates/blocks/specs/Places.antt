@@ -1,9 +1,7 @@
 -- Where the rows of a list stand, as the code looks for them.
 use Rattle.std.specs.Prelude.{ℕ, ◌-◌, Bool, List, map, filter, ◌==◌}
 use Rattle.std.specs.List.{range_with_len}
-use Rattle.blocks.specs.declared.search.Owner.{Owner}
-use Rattle.blocks.specs.declared.search.Owner.TheVariants.{Event, Link}
-use Rattle.blocks.specs.declared.search.Run.{Run}
+use Rattle.std.specs.declared.ops.Range.{Range}
 use Rattle.blocks.specs.Layout.{rows_in}
 use Rattle.blocks.specs.Faults.{list_in}
 use Rattle.blocks.specs.Facts.{RowFact, row_fact}
@@ -20,19 +18,11 @@ places_of m l i n = filter (is_of m l) (range_with_len i n)
 unfoldable pub rows_from : List ℕ → ℕ → ℕ → List RowFact
 rows_from m i n = map (row_fact m) (range_with_len i n)
 
-abbrev pub all_rows : List ℕ → Run
-all_rows m = record { from = 0; to = rows_in m }
+abbrev pub all_rows : List ℕ → Range ℕ
+all_rows m = record { start = 0; end = rows_in m }
 
-abbrev pub run_rows : List ℕ → Run → List RowFact
-run_rows m r = rows_from m r.from (r.to - r.from)
-
-abbrev pub owner_list : Owner → ℕ
-owner_list Event = 3
-owner_list Link = 5
-
-abbrev pub owned_list : Owner → ℕ
-owned_list Event = 4
-owned_list Link = 6
+abbrev pub run_rows : List ℕ → Range ℕ → List RowFact
+run_rows m r = rows_from m r.start (r.end - r.start)
 
 abbrev pub attributes_of : Owned → List RowFact
 attributes_of o = o.attributes

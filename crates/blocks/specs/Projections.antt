@@ -4,6 +4,8 @@ use Rattle.std.specs.Prelude.{ℕ, Bool, cond, List, [], ◌∷◌, length, filt
 use Rattle.std.specs.Option.{option_map, option_flatten}
 use Rattle.std.specs.List.{slice_get}
 use Rattle.lent_bytes.specs.Fields.{id_in}
+use Rattle.blocks.specs.declared.lists.Owner.{Owner}
+use Rattle.blocks.specs.declared.lists.Owner.TheVariants.{Event, Link}
 use Rattle.blocks.specs.declared.row.LinkIds.{LinkIds}
 use Rattle.blocks.specs.Facts.{RowFact}
 
@@ -34,6 +36,10 @@ events_of rows = owning 3 4 rows
 
 abbrev pub links_of : List RowFact → List Owned
 links_of rows = owning 5 6 rows
+
+abbrev pub owned_by : Owner → List RowFact → List Owned
+owned_by Event rows = events_of rows
+owned_by Link rows = links_of rows
 
 -- of the n-th event or link: the row itself, how many attributes it has, and the k-th of them
 abbrev pub nth_head : List Owned → ℕ → Option RowFact

@@ -4,13 +4,21 @@ ghost use Rattle.std.specs.Prelude.{◌≡◌, ◌<◌};
 ghost use Rattle.blocks.specs.Lists.{list_number};
 ghost use Rattle.blocks.specs.Faults.{owns, counted, counted_all, list_fault_by, FewRows};
 
+use crate::limits::LIST_ROWS;
 use crate::lists::List;
 
 /// The counts, list by list.
 pub(crate) type Counts = [u32; 7];
 
-/// The most rows of a list.
-pub const LIST_ROWS: u32 = 128;
+const LISTS: [List; 7] = [
+    List::Span,
+    List::Resource,
+    List::Scope,
+    List::Event,
+    List::EventAttribute,
+    List::Link,
+    List::LinkAttribute,
+];
 
 /// Whether a row of this list begins a new run of the other: an event of its attributes, a link of its.
 fn begins(list: List, run: List) -> bool
@@ -38,15 +46,7 @@ pub(crate) fn count_row(counts: &Counts, list: List) -> Counts
     requires { FewRows counts.now }
     ensures { result ≡ counted_all counts.now (list_number list) }
 {
-    [
-        next(counts[0], list, List::Span),
-        next(counts[1], list, List::Resource),
-        next(counts[2], list, List::Scope),
-        next(counts[3], list, List::Event),
-        next(counts[4], list, List::EventAttribute),
-        next(counts[5], list, List::Link),
-        next(counts[6], list, List::LinkAttribute),
-    ]
+    LISTS.map(|run| next(counts[run as usize], list, run))
 }
 
 /// Whether a row of this list has no owner above, or 128 rows of its list.
@@ -54,8 +54,8 @@ pub(crate) fn is_list_refused(counts: &Counts, list: List) -> bool
     ensures { result ≡ list_fault_by counts.now (list_number list) }
 {
     let ownerless = match list {
-        List::EventAttribute => counts[3] == 0,
-        List::LinkAttribute => counts[5] == 0,
+        List::EventAttribute => counts[List::Event as usize] == 0,
+        List::LinkAttribute => counts[List::Link as usize] == 0,
         _ => false,
     };
     ownerless || counts[list as usize] >= LIST_ROWS

@@ -1,24 +1,21 @@
 //! The checks of the block as a whole and of its header texts.
-ghost use Rattle.std.specs.Prelude.{◌≡◌};
+ghost use Rattle.std.specs.Prelude.{◌≡◌, ◌+◌, nat_le};
 ghost use Rattle.std.specs.Result.{result_err};
+ghost use Rattle.blocks.specs.Layout.{used_in};
 ghost use Rattle.blocks.specs.Faults.{frame_fault, header_ok, layout_ok, within, text_fault, texts_fault};
 
 use crate::faults::{BlockFault, TextFault};
 use crate::layout::text;
-use lent_bytes::fields::{u16_at, u32_at};
+use crate::limits::{LEAST, MOST};
+use lent_bytes::fields::Number;
 use lent_bytes::memory::byte;
 use values::utf8::is_text;
-
-/// The shortest and the longest block.
-pub const LEAST: usize = 120;
-
-pub const MOST: usize = 65536;
 
 fn header_ok(block: &[u8]) -> bool
     ensures { result ≡ header_ok block.now }
 {
     let kind = byte(block, 10);
-    u16_at(block, 0) == 1
+    u16::read(block, 0) == 1
         && kind >= 1
         && kind <= 5
         && byte(block, 11) <= 2
@@ -31,12 +28,12 @@ fn header_ok(block: &[u8]) -> bool
 fn layout_ok(block: &[u8]) -> bool
     ensures { result ≡ layout_ok block.now }
 {
-    let capacity = u16_at(block, 8) as usize;
-    let offset = u32_at(block, 4) as usize;
+    let capacity = u16::read(block, 8) as usize;
+    let offset = u32::read(block, 4) as usize;
     capacity <= 1024
-        && u16_at(block, 2) as usize <= capacity
+        && u16::read(block, 2) as usize <= capacity
         && offset == 120 + 24 * capacity
-        && offset + u32_at(block, 12) as usize <= block.len()
+        && offset + u32::read(block, 12) as usize <= block.len()
 }
 
 /// Whether the length, the header and the layout of a block are right, in this order.
@@ -55,18 +52,25 @@ pub(crate) fn check_frame(block: &[u8]) -> Result<(), BlockFault>
     Ok(())
 }
 
+/// Whether `n` bytes at a place are within the text used.
+pub(crate) fn is_inside(block: &[u8], place: u32, n: u32) -> bool
+    ensures { result ≡ nat_le (place + n) (used_in block.now) }
+{
+    place as u64 + n as u64 <= u32::read(block, 12) as u64
+}
+
 /// Whether a text of `n` bytes at a place is at most `most` bytes long and within the text used.
 pub(crate) fn is_within(block: &[u8], place: u32, n: u32, most: u32) -> bool
     ensures { result ≡ within block.now place n most }
 {
-    n <= most && place as u64 + n as u64 <= u32_at(block, 12) as u64
+    n <= most && is_inside(block, place, n)
 }
 
 fn check_text(block: &[u8], at: u8, most: u32) -> Result<(), TextFault>
     ensures { result_err result ≡ text_fault block.now at most }
 {
-    let place = u32_at(block, at as usize);
-    let n = u32_at(block, at as usize + 4);
+    let place = u32::read(block, at as usize);
+    let n = u32::read(block, at as usize + 4);
     if !is_within(block, place, n, most) {
         return Err(TextFault::Place);
     }

@@ -5,6 +5,7 @@ mod counts;
 pub mod faults;
 mod frame;
 pub mod layout;
+pub mod limits;
 mod link_ids;
 pub mod lists;
 pub mod questions;

@@ -1,7 +1,8 @@
 //! The lists that rows belong to.
-ghost use Rattle.std.specs.Prelude.{◌≡◌, if◌then◌else◌, Some, None, nat_lt};
-ghost use Rattle.std.specs.Option.{option_map};
-ghost use Rattle.blocks.specs.Lists.{list_number, list_of, plain_number};
+ghost use Rattle.std.specs.Prelude.{◌≡◌};
+ghost use Rattle.blocks.specs.Lists.{list_number, ListRead, plain_number, owner_list, owned_list};
+
+use std::fmt;
 
 /// The list that a row belongs to.
 #[derive(Clone, Copy, PartialEq, Eq, Debug)]
@@ -15,29 +16,34 @@ pub enum List {
     LinkAttribute,
 }
 
-impl List {
-    /// The list with a number; none from 7 on.
-    pub fn from_number(n: u8) -> Option<List>
-        ensures list { result ≡ list_of n }
-        ensures back { option_map list_number result ≡ (if nat_lt n 7 then Some n else None) }
-    {
+/// A number that names no list: all from 7 on.
+#[derive(Clone, Copy, PartialEq, Eq, Debug)]
+pub struct UnknownList;
+
+impl TryFrom<u8> for List {
+    type Error = UnknownList;
+
+    ghost try_from_gives = { ListRead };
+
+    fn try_from(n: u8) -> Result<List, UnknownList> {
         match n {
-            0 => Some(List::Span),
-            1 => Some(List::Resource),
-            2 => Some(List::Scope),
-            3 => Some(List::Event),
-            4 => Some(List::EventAttribute),
-            5 => Some(List::Link),
-            6 => Some(List::LinkAttribute),
-            _ => None,
+            0 => Ok(List::Span),
+            1 => Ok(List::Resource),
+            2 => Ok(List::Scope),
+            3 => Ok(List::Event),
+            4 => Ok(List::EventAttribute),
+            5 => Ok(List::Link),
+            6 => Ok(List::LinkAttribute),
+            _ => Err(UnknownList),
         }
     }
+}
 
-    /// The number of this list.
-    pub fn number(self) -> u8
-        ensures { result ≡ list_number self }
-    {
-        self as u8
+impl From<List> for u8 {
+    ghost from_gives = { λ list n. n ≡ list_number list };
+
+    fn from(list: List) -> u8 {
+        list as u8
     }
 }
 
@@ -49,15 +55,57 @@ pub enum PlainList {
     Scope,
 }
 
-impl PlainList {
-    /// The list that this is.
-    pub fn list(self) -> List
-        ensures { list_number result ≡ plain_number self }
-    {
-        match self {
+impl From<PlainList> for List {
+    ghost from_gives = { λ plain list. list_number list ≡ plain_number plain };
+
+    fn from(plain: PlainList) -> List {
+        match plain {
             PlainList::Span => List::Span,
             PlainList::Resource => List::Resource,
             PlainList::Scope => List::Scope,
         }
+    }
+}
+
+/// What has attributes of its own: they stand behind it and above the next of its list.
+#[derive(Clone, Copy, PartialEq, Eq, Debug)]
+pub enum Owner {
+    Event,
+    Link,
+}
+
+impl Owner {
+    /// The list that it stands in.
+    pub fn list(self) -> List
+        ensures { list_number result ≡ owner_list self }
+    {
+        match self {
+            Owner::Event => List::Event,
+            Owner::Link => List::Link,
+        }
+    }
+
+    /// The list of its attributes.
+    pub fn owned(self) -> List
+        ensures { list_number result ≡ owned_list self }
+    {
+        match self {
+            Owner::Event => List::EventAttribute,
+            Owner::Link => List::LinkAttribute,
+        }
+    }
+}
+
+impl fmt::Display for List {
+    fn fmt<W: fmt::Write>(&self, f: &mut fmt::Formatter<W>) -> fmt::Result {
+        f.pad(match self {
+            List::Span => "span",
+            List::Resource => "resource",
+            List::Scope => "scope",
+            List::Event => "event",
+            List::EventAttribute => "event attribute",
+            List::Link => "link",
+            List::LinkAttribute => "link attribute",
+        })
     }
 }

@@ -4,14 +4,15 @@ ghost use Rattle.std.specs.Result.{result_ok};
 ghost use Rattle.std.specs.List.{slice_get};
 ghost use Rattle.blocks.specs.Facts.{row_facts};
 ghost use Rattle.blocks.specs.Lists.{list_number, plain_number};
-ghost use Rattle.blocks.specs.Projections.{of_list, owning, events_of, links_of, nth_head, nth_count, nth_under};
-ghost use Rattle.blocks.specs.Places.{run_rows, owner_list, owned_list};
+ghost use Rattle.blocks.specs.Projections.{of_list, owned_by, nth_head, nth_count, nth_under};
+ghost use Rattle.blocks.specs.Places.{run_rows};
 ghost use Rattle.blocks.specs.Questions.{question_number, answered_row};
 
-use crate::lists::{List, PlainList};
+use crate::lists::{List, Owner, PlainList};
 use crate::row::{Row, row_at};
 use crate::sdk_span::SdkSpan;
-use crate::search::{Owner, Run, all, count_in, find, run_under};
+use crate::search::{all, count_in, find, run_under};
+use std::ops::Range;
 
 /// Why a question has no answer.
 #[derive(Clone, Copy, PartialEq, Eq, Debug)]
@@ -20,52 +21,24 @@ pub enum QuestionFault {
     NoSuchItem,
 }
 
-impl QuestionFault {
-    /// The number under which this fault is answered.
-    pub fn number(self) -> u8
-        ensures { result ≡ question_number self }
-    {
-        match self {
+/// The number under which this fault is answered.
+impl From<QuestionFault> for u8 {
+    ghost from_gives = { λ f n. n ≡ question_number f };
+
+    fn from(fault: QuestionFault) -> u8 {
+        match fault {
             QuestionFault::NoSuchItem => 40,
         }
     }
 }
 
 /// The n-th row of a list in a run.
-fn item(block: &[u8], list: List, run: Run, n: u16) -> Result<Row<'_>, QuestionFault>
+fn item(block: &[u8], list: List, run: Range<u16>, n: u16) -> Result<Row<'_>, QuestionFault>
     ensures { answered_row result ≡ slice_get (of_list (list_number list) (run_rows block.now run)) n }
 {
-    match find(block, list, run, n) {
-        Some(i) => Ok(row_at(block, i)),
-        None => Err(QuestionFault::NoSuchItem),
-    }
-}
-
-/// The n-th event or link.
-fn head(block: &[u8], owner: Owner, n: u16) -> Result<Row<'_>, QuestionFault>
-    ensures { answered_row result ≡ nth_head (owning (owner_list owner) (owned_list owner) (row_facts block.now)) n }
-{
-    item(block, owner.list(), all(block), n)
-}
-
-/// How many attributes the n-th event or link has.
-fn count_under(block: &[u8], owner: Owner, n: u16) -> Result<u16, QuestionFault>
-    ensures { result_ok result ≡ nth_count (owning (owner_list owner) (owned_list owner) (row_facts block.now)) n }
-{
-    match run_under(block, owner, n) {
-        Some(run) => Ok(count_in(block, owner.owned(), run)),
-        None => Err(QuestionFault::NoSuchItem),
-    }
-}
-
-/// The k-th attribute of the n-th event or link.
-fn item_under(block: &[u8], owner: Owner, n: u16, k: u16) -> Result<Row<'_>, QuestionFault>
-    ensures { answered_row result ≡ nth_under (owning (owner_list owner) (owned_list owner) (row_facts block.now)) n k }
-{
-    match run_under(block, owner, n) {
-        Some(run) => item(block, owner.owned(), run, k),
-        None => Err(QuestionFault::NoSuchItem),
-    }
+    find(block, list, run, n)
+        .map(|i| row_at(block, i))
+        .ok_or(QuestionFault::NoSuchItem)
 }
 
 impl<'a> SdkSpan<'a> {
@@ -80,48 +53,30 @@ impl<'a> SdkSpan<'a> {
     pub fn attribute(&self, list: PlainList, n: u16) -> Result<Row<'a>, QuestionFault>
         ensures { answered_row result ≡ slice_get (of_list (plain_number list) (row_facts self.now.block.now)) n }
     {
-        item(self.block, list.list(), all(self.block), n)
+        item(self.block, List::from(list), all(self.block), n)
     }
 
-    /// The n-th event.
-    pub fn event(&self, n: u16) -> Result<Row<'a>, QuestionFault>
-        ensures { answered_row result ≡ nth_head (events_of (row_facts self.now.block.now)) n }
+    /// The n-th event or link.
+    pub fn owner(&self, owner: Owner, n: u16) -> Result<Row<'a>, QuestionFault>
+        ensures { answered_row result ≡ nth_head (owned_by owner (row_facts self.now.block.now)) n }
     {
-        head(self.block, Owner::Event, n)
+        item(self.block, owner.list(), all(self.block), n)
     }
 
-    /// How many attributes the n-th event has.
-    pub fn event_attribute_count(&self, n: u16) -> Result<u16, QuestionFault>
-        ensures { result_ok result ≡ nth_count (events_of (row_facts self.now.block.now)) n }
+    /// How many attributes the n-th event or link has.
+    pub fn owned_count(&self, owner: Owner, n: u16) -> Result<u16, QuestionFault>
+        ensures { result_ok result ≡ nth_count (owned_by owner (row_facts self.now.block.now)) n }
     {
-        count_under(self.block, Owner::Event, n)
+        run_under(self.block, owner, n)
+            .map(|run| count_in(self.block, owner.owned(), run))
+            .ok_or(QuestionFault::NoSuchItem)
     }
 
-    /// The k-th attribute of the n-th event.
-    pub fn event_attribute(&self, n: u16, k: u16) -> Result<Row<'a>, QuestionFault>
-        ensures { answered_row result ≡ nth_under (events_of (row_facts self.now.block.now)) n k }
+    /// The k-th attribute of the n-th event or link.
+    pub fn owned(&self, owner: Owner, n: u16, k: u16) -> Result<Row<'a>, QuestionFault>
+        ensures { answered_row result ≡ nth_under (owned_by owner (row_facts self.now.block.now)) n k }
     {
-        item_under(self.block, Owner::Event, n, k)
-    }
-
-    /// The n-th link.
-    pub fn link(&self, n: u16) -> Result<Row<'a>, QuestionFault>
-        ensures { answered_row result ≡ nth_head (links_of (row_facts self.now.block.now)) n }
-    {
-        head(self.block, Owner::Link, n)
-    }
-
-    /// How many attributes the n-th link has.
-    pub fn link_attribute_count(&self, n: u16) -> Result<u16, QuestionFault>
-        ensures { result_ok result ≡ nth_count (links_of (row_facts self.now.block.now)) n }
-    {
-        count_under(self.block, Owner::Link, n)
-    }
-
-    /// The k-th attribute of the n-th link.
-    pub fn link_attribute(&self, n: u16, k: u16) -> Result<Row<'a>, QuestionFault>
-        ensures { answered_row result ≡ nth_under (links_of (row_facts self.now.block.now)) n k }
-    {
-        item_under(self.block, Owner::Link, n, k)
+        let run = run_under(self.block, owner, n).ok_or(QuestionFault::NoSuchItem)?;
+        item(self.block, owner.owned(), run, k)
     }
 }

@@ -2,9 +2,10 @@
 ghost use Rattle.std.specs.Prelude.{◌≡◌};
 ghost use Rattle.blocks.specs.Facts.{row_fact, fact_of};
 
-use crate::layout::{raw_row, text};
+use crate::layout::raw_row;
 
-/// A row: the number of its list, its key, the number of its value's kind, its value and its time.
+/// A row: the number of its list, its key, the number of its value's kind, its value and its time. They
+/// are numbers, since any bytes can be read as a row.
 #[derive(Clone, Copy)]
 pub struct Row<'a> {
     pub list: u8,
@@ -28,13 +29,11 @@ pub(crate) fn row_at(block: &[u8], i: u16) -> Row<'_>
     ensures { fact_of result ≡ row_fact block.now i }
 {
     let raw = raw_row(block, i);
-    let key = text(block, raw.key_place, raw.key_length as u32);
-    let value = text(block, raw.value_place, raw.value_length);
     Row {
         list: raw.list,
-        key,
+        key: raw.key(block),
         kind: raw.kind,
-        value,
+        value: raw.value(block),
         time: raw.time,
     }
 }

@@ -8,16 +8,22 @@ ghost use Rattle.blocks.specs.First.{first_from};
 
 use crate::counts::{Counts, count_row, is_list_refused};
 use crate::faults::{RowAt, RowFault};
-use crate::frame::is_within;
-use crate::layout::{RawRow, raw_row, text};
+use crate::frame::{is_inside, is_within};
+use crate::layout::{RawRow, is_in, raw_row};
+use crate::limits::LINK_BYTES;
 use crate::lists::List;
-use lent_bytes::fields::{u16_at, u32_at};
-use lent_bytes::tables::same;
+use lent_bytes::fields::Number;
 use values::check::{ValueFault, check};
 use values::utf8::is_text;
 
-/// The bytes of a link's value: trace id, span id and flags.
-pub const LINK_BYTES: u32 = 25;
+/// A row that is checked: its number, its list and where its key and value stand in the block.
+#[derive(Clone, Copy)]
+struct Candidate<'a> {
+    block: &'a [u8],
+    number: u16,
+    list: List,
+    row: RawRow,
+}
 
 fn key_limits(list: List) -> (u32, u32)
     ensures { result ≡ (least_key (list_number list), longest_key (list_number list)) }
@@ -29,66 +35,89 @@ fn key_limits(list: List) -> (u32, u32)
     }
 }
 
-fn check_key(block: &[u8], list: List, row: &RawRow) -> Result<(), RowFault>
-    ensures { result_err result ≡ key_fault block.now (list_number list) (raw_of row.now) }
-{
-    let (least, most) = key_limits(list);
-    let n = row.key_length as u32;
-    if n < least || !is_within(block, row.key_place, n, most) {
-        return Err(RowFault::Key);
-    }
-    if !is_text(text(block, row.key_place, n)) {
-        return Err(RowFault::KeyNotUtf8);
-    }
-    Ok(())
-}
-
-/// Whether the value of a row lies within the text used.
-fn is_value_within(block: &[u8], row: &RawRow) -> bool
-    ensures { result ≡ nat_le ((raw_of row.now).value_place + (raw_of row.now).value_length) (used_in block.now) }
-{
-    row.value_place as u64 + row.value_length as u64 <= u32_at(block, 12) as u64
-}
-
-fn check_attribute(block: &[u8], row: &RawRow) -> Result<(), ValueFault>
-    ensures { result_err result ≡ attribute_value block.now (raw_of row.now) }
-{
-    if row.time != 0 || !is_value_within(block, row) {
-        return Err(ValueFault::Form);
-    }
-    check(row.kind, text(block, row.value_place, row.value_length))?;
-    Ok(())
-}
-
-fn check_event(row: &RawRow) -> Result<(), ValueFault>
-    ensures { result_err result ≡ event_value (raw_of row.now) }
-{
-    if row.kind != 0 || row.value_length != 0 || row.value_place != 0 {
-        return Err(ValueFault::Form);
-    }
-    Ok(())
-}
-
-fn check_link(block: &[u8], row: &RawRow) -> Result<(), ValueFault>
-    ensures { result_err result ≡ link_value block.now (raw_of row.now) }
-{
-    if row.kind != 0
-        || row.time != 0
-        || row.value_length != LINK_BYTES
-        || !is_value_within(block, row)
+impl Candidate<'_> {
+    fn check_key(&self) -> Result<(), RowFault>
+        ensures { result_err result ≡ key_fault self.now.block.now (list_number self.now.list) (raw_of self.now.row) }
     {
-        return Err(ValueFault::Form);
+        let (least, most) = key_limits(self.list);
+        let n = self.row.key_length as u32;
+        if n < least || !is_within(self.block, self.row.key_place, n, most) {
+            return Err(RowFault::Key);
+        }
+        if !is_text(self.row.key(self.block)) {
+            return Err(RowFault::KeyNotUtf8);
+        }
+        Ok(())
     }
-    Ok(())
-}
 
-fn check_value(block: &[u8], list: List, row: &RawRow) -> Result<(), ValueFault>
-    ensures { result_err result ≡ row_value block.now (list_number list) (raw_of row.now) }
-{
-    match list {
-        List::Event => check_event(row),
-        List::Link => check_link(block, row),
-        _ => check_attribute(block, row),
+    /// Whether the value lies within the text used.
+    fn is_value_within(&self) -> bool
+        ensures { result ≡ nat_le ((raw_of self.now.row).value_place + (raw_of self.now.row).value_length) (used_in self.now.block.now) }
+    {
+        is_inside(self.block, self.row.value_place, self.row.value_length)
+    }
+
+    fn check_attribute(&self) -> Result<(), ValueFault>
+        ensures { result_err result ≡ attribute_value self.now.block.now (raw_of self.now.row) }
+    {
+        if self.row.time != 0 || !self.is_value_within() {
+            return Err(ValueFault::Form);
+        }
+        check(self.row.kind, self.row.value(self.block))?;
+        Ok(())
+    }
+
+    fn check_event(&self) -> Result<(), ValueFault>
+        ensures { result_err result ≡ event_value (raw_of self.now.row) }
+    {
+        if self.row.kind != 0 || self.row.value_length != 0 || self.row.value_place != 0 {
+            return Err(ValueFault::Form);
+        }
+        Ok(())
+    }
+
+    fn check_link(&self) -> Result<(), ValueFault>
+        ensures { result_err result ≡ link_value self.now.block.now (raw_of self.now.row) }
+    {
+        if self.row.kind != 0
+            || self.row.time != 0
+            || self.row.value_length != LINK_BYTES
+            || !self.is_value_within()
+        {
+            return Err(ValueFault::Form);
+        }
+        Ok(())
+    }
+
+    fn check_value(&self) -> Result<(), ValueFault>
+        ensures { result_err result ≡ row_value self.now.block.now (list_number self.now.list) (raw_of self.now.row) }
+    {
+        match self.list {
+            List::Event => self.check_event(),
+            List::Link => self.check_link(),
+            _ => self.check_attribute(),
+        }
+    }
+
+    /// Whether this row is an attribute of the resource whose key stands in a row above.
+    fn check_twice(&self) -> Result<(), RowFault>
+        ensures { result_err result ≡ twice_fault self.now.block.now self.now.number (list_number self.now.list) (raw_of self.now.row) }
+    {
+        let key = self.row.key(self.block);
+        if self.list == List::Resource && is_said(self.block, key, self.number) {
+            return Err(RowFault::Twice);
+        }
+        Ok(())
+    }
+
+    /// The first fault of a row but for its list: its key, its value, and whether the resource has its
+    /// key already.
+    fn check(&self) -> Result<(), RowFault>
+        ensures { result_err result ≡ content_fault self.now.block.now self.now.number (list_number self.now.list) (raw_of self.now.row) }
+    {
+        self.check_key()?;
+        self.check_value()?;
+        self.check_twice()
     }
 }
 
@@ -96,42 +125,14 @@ fn check_value(block: &[u8], list: List, row: &RawRow) -> Result<(), ValueFault>
 fn is_resource_key(block: &[u8], key: &[u8], j: u16) -> bool
     ensures { result ≡ resource_key block.now key.now j }
 {
-    let row = raw_row(block, j);
-    row.list == 1 && same(text(block, row.key_place, row.key_length as u32), key)
+    is_in(block, List::Resource, j) && raw_row(block, j).key(block) == key
 }
 
 /// Whether the resource has this key in a row above the row `i`.
 fn is_said(block: &[u8], key: &[u8], i: u16) -> bool
     ensures { result ≡ said block.now key.now i }
 {
-    let mut j = i;
-    while j > 0 {
-        j -= 1;
-        if is_resource_key(block, key, j) {
-            return true;
-        }
-    }
-    false
-}
-
-fn check_twice(block: &[u8], i: u16, list: List, row: &RawRow) -> Result<(), RowFault>
-    ensures { result_err result ≡ twice_fault block.now i (list_number list) (raw_of row.now) }
-{
-    let key = text(block, row.key_place, row.key_length as u32);
-    if list == List::Resource && is_said(block, key, i) {
-        return Err(RowFault::Twice);
-    }
-    Ok(())
-}
-
-/// The first fault of a row but for its list: its key, its value, and whether the resource has its key
-/// already.
-fn check_content(block: &[u8], i: u16, list: List, row: &RawRow) -> Result<(), RowFault>
-    ensures { result_err result ≡ content_fault block.now i (list_number list) (raw_of row.now) }
-{
-    check_key(block, list, row)?;
-    check_value(block, list, row)?;
-    check_twice(block, i, list, row)
+    (0..i).any(|j| is_resource_key(block, key, j))
 }
 
 /// The list of a row, or its first fault.
@@ -141,13 +142,17 @@ fn check_row(block: &[u8], i: u16, counts: &Counts) -> Result<List, RowFault>
     ensures list { IfOk result (λ l. list_number l ≡ list_in block.now i) }
 {
     let row = raw_row(block, i);
-    let Some(list) = List::from_number(row.list) else {
-        return Err(RowFault::List);
-    };
+    let list = List::try_from(row.list)?;
     if is_list_refused(counts, list) {
         return Err(RowFault::List);
     }
-    check_content(block, i, list, &row)?;
+    let candidate = Candidate {
+        block,
+        number: i,
+        list,
+        row,
+    };
+    candidate.check()?;
     Ok(list)
 }
 
@@ -157,10 +162,7 @@ fn check_row_at(block: &[u8], i: u16, counts: &Counts) -> Result<List, RowAt>
     ensures fault { result_err result ≡ row_at_fault block.now i }
     ensures list { IfOk result (λ l. list_number l ≡ list_in block.now i) }
 {
-    match check_row(block, i, counts) {
-        Ok(list) => Ok(list),
-        Err(fault) => Err(RowAt { row: i, fault }),
-    }
+    check_row(block, i, counts).map_err(|fault| RowAt { row: i, fault })
 }
 
 /// The first fault of the rows, one after the other.
@@ -168,7 +170,8 @@ pub(crate) fn check_rows(block: &[u8]) -> Result<(), RowAt>
     ensures { result_err result ≡ first_from (row_at_fault block.now) 0 (rows_in block.now) }
 {
     let mut counts = [0; 7];
-    let rows = u16_at(block, 2);
+    let rows = u16::read(block, 2);
+    // Each row is checked by what the rows above it left, so this stays a loop.
     for i in 0..rows {
         let list = check_row_at(block, i, &counts)?;
         counts = count_row(&counts, list);

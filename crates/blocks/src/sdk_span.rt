@@ -14,7 +14,7 @@ use crate::layout::text;
 use crate::row::{Row, row_at};
 use crate::rows::check_rows;
 use crate::span_kind::{SpanKind, StatusCode};
-use lent_bytes::fields::{i64_at, id_at, u16_at, u32_at};
+use lent_bytes::fields::{Number, id_at};
 use lent_bytes::memory::byte;
 
 /// An ended span, over the block that holds it.
@@ -50,9 +50,11 @@ fn header_text(block: &[u8], at: u8) -> &[u8]
     ensures { result.now ≡ header_text block.now at }
 {
     let at = at as usize;
-    text(block, u32_at(block, at), u32_at(block, at + 4))
+    text(block, u32::read(block, at), u32::read(block, at + 4))
 }
 
+// Each number and text of the header has a function of its own name, which says what it means: they are
+// no twins, though their bodies differ in a place alone.
 impl<'a> SdkSpan<'a> {
     /// The span in ended memory, with none of open's checks: its questions have their answers on any
     /// bytes.
@@ -94,28 +96,28 @@ impl<'a> SdkSpan<'a> {
     pub fn start_time(&self) -> i64
         ensures { result ≡ (facts self.now.block.now).start }
     {
-        i64_at(self.block, 48)
+        i64::read(self.block, 48)
     }
 
     /// When the span ended, in nanoseconds since 1970.
     pub fn end_time(&self) -> i64
         ensures { result ≡ (facts self.now.block.now).finish }
     {
-        i64_at(self.block, 56)
+        i64::read(self.block, 56)
     }
 
     /// What the span stands for.
     pub fn kind(&self) -> SpanKind
         ensures { result ≡ (facts self.now.block.now).kind }
     {
-        SpanKind::from_number(byte(self.block, 10))
+        SpanKind::from(byte(self.block, 10))
     }
 
     /// How the span ended.
     pub fn status(&self) -> StatusCode
         ensures { result ≡ (facts self.now.block.now).status }
     {
-        StatusCode::from_number(byte(self.block, 11))
+        StatusCode::from(byte(self.block, 11))
     }
 
     /// The span's name.
@@ -157,38 +159,34 @@ impl<'a> SdkSpan<'a> {
     pub fn dropped_attributes(&self) -> u32
         ensures { result ≡ u32_in self.now.block.now 64 }
     {
-        u32_at(self.block, 64)
+        u32::read(self.block, 64)
     }
 
     /// How many events were dropped.
     pub fn dropped_events(&self) -> u32
         ensures { result ≡ u32_in self.now.block.now 68 }
     {
-        u32_at(self.block, 68)
+        u32::read(self.block, 68)
     }
 
     /// How many links were dropped.
     pub fn dropped_links(&self) -> u32
         ensures { result ≡ u32_in self.now.block.now 72 }
     {
-        u32_at(self.block, 72)
+        u32::read(self.block, 72)
     }
 
     /// How many rows there are.
     pub fn row_count(&self) -> u16
         ensures { result ≡ rows_in self.now.block.now }
     {
-        u16_at(self.block, 2)
+        u16::read(self.block, 2)
     }
 
     /// The row with a number; none from the number of rows on.
     pub fn row(&self, i: u16) -> Option<Row<'a>>
         ensures { option_map fact_of result ≡ (if nat_lt i (rows_in self.now.block.now) then Some (row_fact self.now.block.now i) else None) }
     {
-        if i < u16_at(self.block, 2) {
-            Some(row_at(self.block, i))
-        } else {
-            None
-        }
+        (i < u16::read(self.block, 2)).then(|| row_at(self.block, i))
     }
 }

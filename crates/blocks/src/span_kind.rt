@@ -2,6 +2,8 @@
 ghost use Rattle.std.specs.Prelude.{◌≡◌};
 ghost use Rattle.blocks.specs.Facts.{span_kind_number, span_kind_of, status_number, status_of};
 
+use std::fmt;
+
 /// What a span stands for.
 #[derive(Clone, Copy, PartialEq, Eq, Debug)]
 pub enum SpanKind {
@@ -12,11 +14,11 @@ pub enum SpanKind {
     Consumer = 5,
 }
 
-impl SpanKind {
-    /// The kind with a number; internal for a number that names none.
-    pub fn from_number(n: u8) -> SpanKind
-        ensures { result ≡ span_kind_of n }
-    {
+/// The kind with a number; internal for a number that names none.
+impl From<u8> for SpanKind {
+    ghost from_gives = { λ n kind. kind ≡ span_kind_of n };
+
+    fn from(n: u8) -> SpanKind {
         match n {
             2 => SpanKind::Server,
             3 => SpanKind::Client,
@@ -25,12 +27,13 @@ impl SpanKind {
             _ => SpanKind::Internal,
         }
     }
+}
 
-    /// The number of this kind.
-    pub fn number(self) -> u8
-        ensures { result ≡ span_kind_number self }
-    {
-        self as u8
+impl From<SpanKind> for u8 {
+    ghost from_gives = { λ kind n. n ≡ span_kind_number kind };
+
+    fn from(kind: SpanKind) -> u8 {
+        kind as u8
     }
 }
 
@@ -42,22 +45,45 @@ pub enum StatusCode {
     Error,
 }
 
-impl StatusCode {
-    /// The status with a number; unset for a number that names none.
-    pub fn from_number(n: u8) -> StatusCode
-        ensures { result ≡ status_of n }
-    {
+/// The status with a number; unset for a number that names none.
+impl From<u8> for StatusCode {
+    ghost from_gives = { λ n status. status ≡ status_of n };
+
+    fn from(n: u8) -> StatusCode {
         match n {
             1 => StatusCode::Ok,
             2 => StatusCode::Error,
             _ => StatusCode::Unset,
         }
     }
+}
 
-    /// The number of this status.
-    pub fn number(self) -> u8
-        ensures { result ≡ status_number self }
-    {
-        self as u8
+impl From<StatusCode> for u8 {
+    ghost from_gives = { λ status n. n ≡ status_number status };
+
+    fn from(status: StatusCode) -> u8 {
+        status as u8
+    }
+}
+
+impl fmt::Display for SpanKind {
+    fn fmt<W: fmt::Write>(&self, f: &mut fmt::Formatter<W>) -> fmt::Result {
+        f.pad(match self {
+            SpanKind::Internal => "internal",
+            SpanKind::Server => "server",
+            SpanKind::Client => "client",
+            SpanKind::Producer => "producer",
+            SpanKind::Consumer => "consumer",
+        })
+    }
+}
+
+impl fmt::Display for StatusCode {
+    fn fmt<W: fmt::Write>(&self, f: &mut fmt::Formatter<W>) -> fmt::Result {
+        f.pad(match self {
+            StatusCode::Unset => "unset",
+            StatusCode::Ok => "ok",
+            StatusCode::Error => "error",
+        })
     }
 }

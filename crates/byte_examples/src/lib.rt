@@ -3,13 +3,10 @@
 
 #[cfg(test)]
 mod tests {
-    use lent_bytes::digits::{push_decimal, push_hex, push_signed};
-    use lent_bytes::fields::{
-        i64_at, id_at, put_i64, put_u16, put_u32, put_u64, u16_at, u32_at, u64_at,
-    };
+    use lent_bytes::fields::{Number, id_at};
     use lent_bytes::memory::{after, byte, clear_from, part, write};
-    use lent_bytes::tables::{index_of, same, text_at};
-    use lent_bytes::texts::{finish, push, write_text};
+    use lent_bytes::tables::{index_of, text_at};
+    use lent_bytes::texts::{TextWriter, write_text};
 
     #[test]
     fn parts_end_with_the_memory(rt: HostRuntime) {
@@ -39,52 +36,56 @@ mod tests {
     #[test]
     fn numbers_in_bytes(rt: HostRuntime) {
         let m = b"\x01\x02\x03\x04\x05\x06\x07\x88";
-        assert_eq!(rt; u16_at(m, 0), 0x0201);
-        assert_eq!(rt; u16_at(m, 7), 0x88);
-        assert_eq!(rt; u32_at(m, 2), 0x06050403);
-        assert_eq!(rt; u64_at(m, 0), 0x8807_0605_0403_0201);
-        assert_eq!(rt; i64_at(m, 0), -0x77f8_f9fa_fbfc_fdff);
+        assert_eq!(rt; u16::read(m, 0), 0x0201);
+        assert_eq!(rt; u16::read(m, 7), 0x88);
+        assert_eq!(rt; u32::read(m, 2), 0x06050403);
+        assert_eq!(rt; u64::read(m, 0), 0x8807_0605_0403_0201);
+        assert_eq!(rt; i64::read(m, 0), -0x77f8_f9fa_fbfc_fdff);
         assert_eq!(rt; id_at(m, 0), 0x0102_0304_0506_0788);
-        assert_eq!(rt; u64_at(m, 8), 0);
+        assert_eq!(rt; u64::read(m, 8), 0);
     }
 
     #[test]
     fn numbers_are_written(rt: HostRuntime) {
         let mut m = [0u8; 24];
-        put_u16(&mut m, 0, 0x0201);
-        put_u32(&mut m, 2, 0x06050403);
-        put_u64(&mut m, 8, 0x0102);
-        put_i64(&mut m, 16, -2);
+        0x0201u16.put(&mut m, 0);
+        0x06050403u32.put(&mut m, 2);
+        0x0102u64.put(&mut m, 8);
+        (-2i64).put(&mut m, 16);
         assert!(rt; &m[0..10] == b"\x01\x02\x03\x04\x05\x06\0\0\x02\x01".as_slice());
-        assert_eq!(rt; i64_at(&m, 16), -2);
-        put_u32(&mut m, 22, 0x06050403);
+        assert_eq!(rt; i64::read(&m, 16), -2);
+        0x06050403u32.put(&mut m, 22);
         assert!(rt; &m[22..24] == b"\x03\x04".as_slice());
     }
 
     #[test]
     fn texts_in_a_buffer(rt: HostRuntime) {
         let mut out = [b'.'; 8];
-        let n = push(&mut out, 0, b"ab");
-        let n = push_decimal(&mut out, n, 120);
+        let mut text = TextWriter::new(&mut out);
+        text.push(b"ab");
+        text.push_decimal(120);
+        let n = text.len();
         assert_eq!(rt; n, 5);
         assert!(rt; &out == b"ab120...");
-        let n = push_signed(&mut out, n, -4567);
-        assert_eq!(rt; n, 8);
+        let mut text = TextWriter::behind(&mut out, n);
+        text.push_signed(-4567);
+        assert_eq!(rt; text.len(), 8);
         assert!(rt; &out == b"ab120-45");
-        let n = finish(&mut out, 3);
-        assert_eq!(rt; n, 3);
+        assert_eq!(rt; TextWriter::behind(&mut out, 3).finish(), 3);
         assert!(rt; &out == b"ab1\0\0\0\0\0");
         assert_eq!(rt; write_text(&mut out, b"a long text"), 8);
         assert!(rt; &out == b"a long t");
-        assert_eq!(rt; push_hex(&mut out, 1, b"\x0f\xa0"), 5);
+        let mut text = TextWriter::behind(&mut out, 1);
+        text.push_hex(b"\x0f\xa0");
+        assert_eq!(rt; text.len(), 5);
         assert!(rt; &out == b"a0fa0g t");
     }
 
     #[test]
     fn tables_of_texts(rt: HostRuntime) {
         let table: [&[u8]; 3] = [b"one", b"two", b"two"];
-        assert!(rt; same(b"two", b"two"));
-        assert!(rt; !same(b"two", b"twos"));
+        assert!(rt; b"two".as_slice() == b"two".as_slice());
+        assert!(rt; b"two".as_slice() != b"twos".as_slice());
         assert!(rt; text_at(&table, 0) == b"one".as_slice());
         assert!(rt; text_at(&table, 3) == b"".as_slice());
         assert_eq!(rt; index_of(&table, b"two"), Some(1));

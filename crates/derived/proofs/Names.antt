@@ -1,5 +1,6 @@
 -- Names that are made of texts, where these are not empty.
 use Rattle.std.proofs.Common.{◌≡◌, ℕ, ◌<◌, false, eqb, List, [], ◌∷◌, length, Some, None, Option, sym, refl, ap, ◌∙◌, arith}
+use Rattle.std.specs.Option.{MatchOption}
 use Rattle.std.proofs.lemmas.Bool.{both_ways, eq-eqb}
 use Rattle.lent_bytes.specs.Memory.{portion, padded}
 use Rattle.readers.proofs.Fronts.{portion-padded}
@@ -29,6 +30,11 @@ taken (Some t) u n before out f = let s = f.size in record { len = cc; text = f.
 pub passed : (o : Option (List ℕ)) (u : List ℕ) (before after : List ℕ) (n : ℕ) (out : List ℕ) → Offered 8200 o None before after → Filled 8200 u n out → Filled 8200 (or_absent o u) n out
 passed None u before after n out f g = g
 passed (Some t) u before after n out f g = let s = f.size in let z : ◌≡◌ {A = ℕ} 0 1 = cc in absurd (omega arith)
+
+-- what holds where no name is offered
+pub none_offered : (o : Option (List ℕ)) (before after : List ℕ) (P : Type 0) (Q : List ℕ → Type 0) → Offered 8200 o None before after → P → MatchOption o P Q
+none_offered None before after P Q f p = p
+none_offered (Some t) before after P Q f p = let s = f.size in let z : ◌≡◌ {A = ℕ} 0 1 = cc in absurd (omega arith)
 
 -- a text that is offered as it is, where another is not empty
 pub offered_if : (s t u : List ℕ) (n r : ℕ) (before out : List ℕ) → n ≡ length s → (n ≡ 0 → ⊥) → u ≡ t → false ≡ eqb (length u) 0 → Filled 8200 u r out → Offered 8200 (only_if s (if_given t t)) (Some r) before out

@@ -226,8 +226,5 @@ pub fn check_db_type(db_type: &[u8]) -> &'static [u8]
     ensures text { result.now ≡ database_type db_type.now }
     ensures short { length result.now ≤ 4096 }
 {
-    match find(&DB_TYPES, db_type) {
-        Some(span_type) => span_type,
-        None => SPAN_TYPE_DB,
-    }
+    find(&DB_TYPES, db_type).unwrap_or(SPAN_TYPE_DB)
 }

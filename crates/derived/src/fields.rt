@@ -1,7 +1,9 @@
 //! The six fields of a Datadog span that are derived from a reading. Datadog's own attributes come
 //! before what the other attributes say.
-ghost use Rattle.std.specs.Prelude.{◌≡◌};
-ghost use Rattle.readers.specs.Texts.{Filled, Offered};
+ghost use Rattle.std.specs.Prelude.{◌≡◌, ℕ, ◌<◌, ◌≤◌, List, length};
+ghost use Rattle.std.specs.Fn.{FnOnceReturnsAtMut};
+ghost use Rattle.std.specs.Option.{MatchOption};
+ghost use Rattle.readers.specs.Texts.{Filled, Offered, span_text};
 ghost use Rattle.derived.specs.Fields.{own_text, field_name, field_resource, field_type, field_service, field_environment, field_status_code};
 
 use crate::operation_name::get_otel_operation_name_v2;
@@ -12,7 +14,7 @@ use crate::span_fields::{
 use crate::texts::compose;
 use names::attribute_keys::*;
 use readers::otel_util::{OtelSpan, get_attr_str};
-use readers::texts::front;
+use readers::texts::Text;
 
 /// A span's text in the larger memory, if it is not empty; else the memory is as it was.
 fn own_text<S: OtelSpan>(span: &S, key: AttributeKey, out: &mut [u8; 8200]) -> Option<usize>
@@ -26,68 +28,97 @@ fn own_text<S: OtelSpan>(span: &S, key: AttributeKey, out: &mut [u8; 8200]) -> O
     if n == 0 {
         return None;
     }
-    Some(compose(out, b"", b"", b"", front(&text, n)))
+    Some(compose(out, b"", b"", b"", Text::front(&text, n).bytes))
+}
+
+/// A span's text in the larger memory, if it is not empty, and else what is derived.
+fn own_text_or<S: OtelSpan, F: FnOnce(&mut [u8; 8200]) -> usize>(
+    span: &S,
+    key: AttributeKey,
+    out: &mut [u8; 8200],
+    derive: F,
+) -> usize
+    requires { F.IsAlwaysCallable derive }
+    ensures { MatchOption (own_text (S.OtelSpan.reading span.now) key.idx) ((m : List ℕ) × FnOnceReturnsAtMut F.FnOnce derive m result out.new) (λ t. Filled 8200 t result out.new) }
+{
+    // With `unwrap_or_else` the proof did not close: what its closure leaves in memory is not followed.
+    match own_text(span, key, out) {
+        Some(n) => n,
+        None => derive(out),
+    }
 }
 
 /// The name.
 pub fn datadog_name<S: OtelSpan>(span: &S, out: &mut [u8; 8200]) -> usize
     ensures { Filled 8200 (field_name (S.OtelSpan.reading span.now)) result out.new }
 {
-    match own_text(span, DATADOG_NAME, out) {
-        Some(n) => n,
-        None => get_otel_operation_name_v2(span, out),
-    }
+    own_text_or(
+        span,
+        DATADOG_NAME,
+        out,
+        |out| get_otel_operation_name_v2(span, out),
+    )
 }
 
 /// The resource.
 pub fn datadog_resource<S: OtelSpan>(span: &S, out: &mut [u8; 8200]) -> usize
     ensures { Filled 8200 (field_resource (S.OtelSpan.reading span.now)) result out.new }
 {
-    match own_text(span, DATADOG_RESOURCE, out) {
-        Some(n) => n,
-        None => get_otel_resource_v2(span, out),
+    own_text_or(
+        span,
+        DATADOG_RESOURCE,
+        out,
+        |out| get_otel_resource_v2(span, out),
+    )
+}
+
+/// An attribute of Datadog's own, unless it is empty, and else what is derived. Not one function with the above: a bound
+/// on a closure may not name the size of its memory as a const parameter.
+fn own_or<S: OtelSpan, F: FnOnce(&mut [u8; 4096]) -> usize>(
+    span: &S,
+    key: AttributeKey,
+    out: &mut [u8; 4096],
+    derive: F,
+) -> usize
+    requires { F.IsAlwaysCallable derive }
+    ensures own { 0 < length (span_text (S.OtelSpan.reading span.now) key.idx) → Filled 4096 (span_text (S.OtelSpan.reading span.now) key.idx) result out.new }
+    ensures derived { length (span_text (S.OtelSpan.reading span.now) key.idx) ≤ 0 → (m : List ℕ) × FnOnceReturnsAtMut F.FnOnce derive m result out.new }
+{
+    let n = get_attr_str(span, key, out);
+    if n > 0 {
+        return n;
     }
+    derive(out)
 }
 
 /// The type.
 pub fn datadog_type<S: OtelSpan>(span: &S, out: &mut [u8; 4096]) -> usize
     ensures { Filled 4096 (field_type (S.OtelSpan.reading span.now)) result out.new }
 {
-    let n = get_attr_str(span, DATADOG_TYPE, out);
-    if n > 0 {
-        return n;
-    }
-    get_otel_span_type(span, out)
+    own_or(span, DATADOG_TYPE, out, |out| get_otel_span_type(span, out))
 }
 
 /// The service.
 pub fn datadog_service<S: OtelSpan>(span: &S, out: &mut [u8; 4096]) -> usize
     ensures { Filled 4096 (field_service (S.OtelSpan.reading span.now)) result out.new }
 {
-    let n = get_attr_str(span, DATADOG_SERVICE, out);
-    if n > 0 {
-        return n;
-    }
-    get_otel_service(span, out)
+    own_or(span, DATADOG_SERVICE, out, |out| {
+        get_otel_service(span, out)
+    })
 }
 
 /// The environment; the empty text is none.
 pub fn datadog_env<S: OtelSpan>(span: &S, out: &mut [u8; 4096]) -> usize
     ensures { Filled 4096 (field_environment (S.OtelSpan.reading span.now)) result out.new }
 {
-    let n = get_attr_str(span, DATADOG_ENV, out);
-    if n > 0 {
-        return n;
-    }
-    get_otel_env(span, out)
+    own_or(span, DATADOG_ENV, out, |out| get_otel_env(span, out))
 }
 
 /// The status code of an HTTP response; 0 is none.
 pub fn datadog_status_code<S: OtelSpan>(span: &S) -> u32
     ensures { result ≡ field_status_code (S.OtelSpan.reading span.now) }
 {
-    match code_under(span, DATADOG_HTTP_STATUS_CODE) {
-        Some(code) => code,
-        None => get_otel_status_code(span).unwrap_or(0),
-    }
+    code_under(span, DATADOG_HTTP_STATUS_CODE)
+        .or_else(|| get_otel_status_code(span))
+        .unwrap_or(0)
 }

@@ -1,39 +1,16 @@
-//! The operation name of a span.
-ghost use Rattle.std.specs.Prelude.{◌≡◌, ◌≤◌, length};
-ghost use Rattle.readers.specs.Texts.{Filled, Offered, or_absent, span_text, first_span_text, places_of};
-ghost use Rattle.derived.specs.OperationName.{lowered, is_http, query_name, messaging_name, aws_name, rpc_client_name, rpc_server_name, invoked_name, triggered_name, graphql_name, protocol_name, request_name, client_name, server_name, message_name, name_by_kind, operation_name};
+//! The operation name of a span. The reader and the memory go from function to function: in a struct, each would have
+//! to say besides that they stay the same ones. Names are tried one after the other by `if let` and `match`: with
+//! `unwrap_or_else` the proof did not close, since what its closure leaves in memory is not followed.
+ghost use Rattle.std.specs.Prelude.{◌≡◌, ◌++◌, codes};
+ghost use Rattle.std.specs.Str.{bytes_eq};
+ghost use Rattle.readers.specs.Texts.{Filled, Offered, or_absent, if_given, span_text};
+ghost use Rattle.derived.specs.OperationName.{lowered, is_http, query_name, messaging_name, aws_name, rpc_client_name, invoked_name, graphql_name, protocol_name, request_name, client_name, server_name, message_name, name_by_kind, operation_name};
 
-use crate::texts::compose;
+use crate::texts::{Scratch, compose, lower_first, lower_text};
 use blocks::span_kind::SpanKind;
-use lent_bytes::tables::same;
 use names::attribute_keys::*;
-use readers::otel_util::{OtelSpan, get_attr_str, get_span_attributes};
-use readers::texts::{front, lower_front};
-
-/// A span's text in lower case, the empty one where it has none; memory is written only if it has one.
-fn lower_text<'t, S: OtelSpan>(span: &S, key: AttributeKey, text: &'t mut [u8; 4096]) -> &'t [u8]
-    ensures text { result.now ≡ lowered (span_text (S.OtelSpan.reading span.now) key.idx) }
-    ensures short { length result.now ≤ 4096 }
-{
-    if !span.has_attr(key) {
-        return b"";
-    }
-    let n = get_attr_str(span, key, text);
-    lower_front(text, n)
-}
-
-/// The first text of the span under the keys that is not empty, in lower case.
-fn lower_first<'t, S: OtelSpan>(
-    span: &S,
-    keys: &[AttributeKey],
-    text: &'t mut [u8; 4096],
-) -> &'t [u8]
-    ensures text { result.now ≡ lowered (first_span_text (S.OtelSpan.reading span.now) (places_of keys.now)) }
-    ensures short { length result.now ≤ 4096 }
-{
-    let n = get_span_attributes(span, keys, text);
-    lower_front(text, n)
-}
+use readers::otel_util::{OtelSpan, get_attr_str};
+use readers::texts::Text;
 
 fn is_http<S: OtelSpan>(span: &S) -> bool
     ensures { result ≡ is_http (S.OtelSpan.reading span.now) }
@@ -41,52 +18,58 @@ fn is_http<S: OtelSpan>(span: &S) -> bool
     span.has_attr(HTTP_METHOD) || span.has_attr(HTTP_REQUEST_METHOD)
 }
 
-fn query_name<S: OtelSpan>(span: &S, text: &mut [u8; 4096], out: &mut [u8; 8200]) -> Option<usize>
+fn query_name<S: OtelSpan>(span: &S, scratch: &mut Scratch, out: &mut [u8; 8200]) -> Option<usize>
     ensures { Offered 8200 (query_name (S.OtelSpan.reading span.now)) result out.old out.new }
 {
-    let system = lower_first(span, &[DB_SYSTEM, DB_SYSTEM_NAME], text);
+    let system = lower_first(span, &[DB_SYSTEM, DB_SYSTEM_NAME], &mut scratch.text);
     if system.is_empty() {
         return None;
     }
-    Some(compose(out, b"", b"", system, b".query"))
+    Some(compose(out, b"", b"", system.bytes, b".query"))
 }
 
 fn messaging_name<S: OtelSpan>(
     span: &S,
-    text: &mut [u8; 4096],
-    other: &mut [u8; 4096],
+    scratch: &mut Scratch,
     out: &mut [u8; 8200],
 ) -> Option<usize>
     ensures { Offered 8200 (messaging_name (S.OtelSpan.reading span.now)) result out.old out.new }
 {
-    let system = lower_text(span, MESSAGING_SYSTEM, text);
+    let system = lower_text(span, MESSAGING_SYSTEM, &mut scratch.text);
     if system.is_empty() {
         return None;
     }
     let operation = lower_first(
         span,
         &[MESSAGING_OPERATION, MESSAGING_OPERATION_TYPE],
-        other,
+        &mut scratch.other,
     );
     if operation.is_empty() {
         return None;
     }
-    Some(compose(out, b"", system, b".", operation))
+    Some(compose(out, b"", system.bytes, b".", operation.bytes))
 }
 
-fn aws_name<S: OtelSpan>(span: &S, text: &mut [u8; 4096], out: &mut [u8; 8200]) -> usize
+fn aws_name<S: OtelSpan>(span: &S, memory: &mut [u8; 4096], out: &mut [u8; 8200]) -> usize
     ensures { Filled 8200 (aws_name (S.OtelSpan.reading span.now)) result out.new }
 {
-    let service = lower_text(span, RPC_SERVICE, text);
+    let service = lower_text(span, RPC_SERVICE, memory);
     if service.is_empty() {
         return compose(out, b"", b"", b"", b"aws.client.request");
     }
-    compose(out, b"", b"aws.", service, b".request")
+    compose(out, b"", b"aws.", service.bytes, b".request")
+}
+
+/// Whether a call goes to AWS.
+fn is_aws(system: Text<'_>) -> bool
+    ensures { result ≡ bytes_eq system.entry.bytes.now (codes "aws-api") }
+{
+    system.bytes == b"aws-api".as_slice()
 }
 
 fn rpc_client_name<S: OtelSpan>(
     span: &S,
-    text: &mut [u8; 4096],
+    scratch: &mut Scratch,
     out: &mut [u8; 8200],
 ) -> Option<usize>
     ensures { Offered 8200 (rpc_client_name (S.OtelSpan.reading span.now)) result out.old out.new }
@@ -94,68 +77,52 @@ fn rpc_client_name<S: OtelSpan>(
     if !span.has_attr(RPC_SYSTEM) {
         return None;
     }
-    let n = get_attr_str(span, RPC_SYSTEM, text);
+    let n = get_attr_str(span, RPC_SYSTEM, &mut scratch.text);
     if n == 0 {
         return None;
     }
-    if same(front(text, n), b"aws-api") {
-        return Some(aws_name(span, text, out));
+    if is_aws(Text::front(&scratch.text, n)) {
+        return Some(aws_name(span, &mut scratch.other, out));
     }
-    let system = lower_front(text, n);
-    Some(compose(out, b"", b"", system, b".client.request"))
+    let system = Text::lower_front(&mut scratch.text, n);
+    Some(compose(out, b"", b"", system.bytes, b".client.request"))
 }
 
-fn rpc_server_name<S: OtelSpan>(
+/// A text of the span in lower case, if it has one, with a word behind it.
+fn named_after<S: OtelSpan>(
     span: &S,
-    text: &mut [u8; 4096],
+    key: AttributeKey,
+    word: Text<'_>,
+    scratch: &mut Scratch,
     out: &mut [u8; 8200],
 ) -> Option<usize>
-    ensures { Offered 8200 (rpc_server_name (S.OtelSpan.reading span.now)) result out.old out.new }
+    ensures { Offered 8200 (if_given (span_text (S.OtelSpan.reading span.now) key.idx) (lowered (span_text (S.OtelSpan.reading span.now) key.idx) ++ word.entry.bytes.now)) result out.old out.new }
 {
-    let system = lower_text(span, RPC_SYSTEM, text);
-    if system.is_empty() {
+    let text = lower_text(span, key, &mut scratch.text);
+    if text.is_empty() {
         return None;
     }
-    Some(compose(out, b"", b"", system, b".server.request"))
+    Some(compose(out, b"", b"", text.bytes, word.bytes))
 }
 
-fn invoked_name<S: OtelSpan>(
-    span: &S,
-    text: &mut [u8; 4096],
-    other: &mut [u8; 4096],
-    out: &mut [u8; 8200],
-) -> Option<usize>
+fn invoked_name<S: OtelSpan>(span: &S, scratch: &mut Scratch, out: &mut [u8; 8200]) -> Option<usize>
     ensures { Offered 8200 (invoked_name (S.OtelSpan.reading span.now)) result out.old out.new }
 {
-    let provider = lower_text(span, FAAS_INVOKED_PROVIDER, text);
+    let provider = lower_text(span, FAAS_INVOKED_PROVIDER, &mut scratch.text);
     if provider.is_empty() {
         return None;
     }
-    let name = lower_text(span, FAAS_INVOKED_NAME, other);
+    let name = lower_text(span, FAAS_INVOKED_NAME, &mut scratch.other);
     if name.is_empty() {
         return None;
     }
-    Some(compose(out, provider, b".", name, b".invoke"))
+    Some(compose(out, provider.bytes, b".", name.bytes, b".invoke"))
 }
 
-fn triggered_name<S: OtelSpan>(
-    span: &S,
-    text: &mut [u8; 4096],
-    out: &mut [u8; 8200],
-) -> Option<usize>
-    ensures { Offered 8200 (triggered_name (S.OtelSpan.reading span.now)) result out.old out.new }
-{
-    let trigger = lower_text(span, FAAS_TRIGGER, text);
-    if trigger.is_empty() {
-        return None;
-    }
-    Some(compose(out, b"", b"", trigger, b".invoke"))
-}
-
-fn graphql_name<S: OtelSpan>(span: &S, text: &mut [u8; 4096], out: &mut [u8; 8200]) -> Option<usize>
+fn graphql_name<S: OtelSpan>(span: &S, scratch: &mut Scratch, out: &mut [u8; 8200]) -> Option<usize>
     ensures { Offered 8200 (graphql_name (S.OtelSpan.reading span.now)) result out.old out.new }
 {
-    let n = get_attr_str(span, GRAPHQL_OPERATION_TYPE, text);
+    let n = get_attr_str(span, GRAPHQL_OPERATION_TYPE, &mut scratch.text);
     if n == 0 {
         return None;
     }
@@ -165,134 +132,136 @@ fn graphql_name<S: OtelSpan>(span: &S, text: &mut [u8; 4096], out: &mut [u8; 820
 /// By the network protocol, with what is asked of a client or a server.
 fn protocol_name<S: OtelSpan>(
     span: &S,
-    request: &[u8],
-    text: &mut [u8; 4096],
+    request: Text<'_>,
+    scratch: &mut Scratch,
     out: &mut [u8; 8200],
 ) -> Option<usize>
-    requires { length request.now ≤ 100 }
-    ensures { Offered 8200 (protocol_name (S.OtelSpan.reading span.now) request.now) result out.old out.new }
+    ensures { Offered 8200 (protocol_name (S.OtelSpan.reading span.now) request.entry.bytes.now) result out.old out.new }
 {
-    let protocol = lower_text(span, NETWORK_PROTOCOL_NAME, text);
+    let protocol = lower_text(span, NETWORK_PROTOCOL_NAME, &mut scratch.text);
     if protocol.is_empty() {
         return None;
     }
-    Some(compose(out, b"", protocol, b".", request))
+    Some(compose(out, b"", protocol.bytes, b".", request.bytes))
 }
 
 /// What a client and a server fall back on.
 fn request_name<S: OtelSpan>(
     span: &S,
-    request: &[u8],
-    text: &mut [u8; 4096],
+    request: Text<'_>,
+    scratch: &mut Scratch,
     out: &mut [u8; 8200],
 ) -> usize
-    requires { length request.now ≤ 100 }
-    ensures { Filled 8200 (request_name (S.OtelSpan.reading span.now) request.now) result out.new }
+    ensures { Filled 8200 (request_name (S.OtelSpan.reading span.now) request.entry.bytes.now) result out.new }
 {
-    if let Some(n) = graphql_name(span, text, out) {
+    if let Some(n) = graphql_name(span, scratch, out) {
         return n;
     }
-    if let Some(n) = protocol_name(span, request, text, out) {
+    if let Some(n) = protocol_name(span, request, scratch, out) {
         return n;
     }
-    compose(out, b"", b"", b"", request)
+    compose(out, b"", b"", b"", request.bytes)
 }
 
 /// A client that speaks no HTTP: a database, a message, a call, a function, and last its protocol.
-fn client_name<S: OtelSpan>(
-    span: &S,
-    text: &mut [u8; 4096],
-    other: &mut [u8; 4096],
-    out: &mut [u8; 8200],
-) -> usize
+fn client_name<S: OtelSpan>(span: &S, scratch: &mut Scratch, out: &mut [u8; 8200]) -> usize
     ensures { Filled 8200 (client_name (S.OtelSpan.reading span.now)) result out.new }
 {
-    if let Some(n) = query_name(span, text, out) {
+    if let Some(n) = query_name(span, scratch, out) {
         return n;
     }
-    if let Some(n) = messaging_name(span, text, other, out) {
+    if let Some(n) = messaging_name(span, scratch, out) {
         return n;
     }
-    if let Some(n) = rpc_client_name(span, text, out) {
+    if let Some(n) = rpc_client_name(span, scratch, out) {
         return n;
     }
-    if let Some(n) = invoked_name(span, text, other, out) {
+    if let Some(n) = invoked_name(span, scratch, out) {
         return n;
     }
-    request_name(span, b"client.request", text, out)
+    request_name(
+        span,
+        Text {
+            bytes: b"client.request",
+        },
+        scratch,
+        out,
+    )
 }
 
 /// A server that speaks no HTTP.
-fn server_name<S: OtelSpan>(
-    span: &S,
-    text: &mut [u8; 4096],
-    other: &mut [u8; 4096],
-    out: &mut [u8; 8200],
-) -> usize
+fn server_name<S: OtelSpan>(span: &S, scratch: &mut Scratch, out: &mut [u8; 8200]) -> usize
     ensures { Filled 8200 (server_name (S.OtelSpan.reading span.now)) result out.new }
 {
-    if let Some(n) = messaging_name(span, text, other, out) {
+    if let Some(n) = messaging_name(span, scratch, out) {
         return n;
     }
-    if let Some(n) = rpc_server_name(span, text, out) {
+    if let Some(n) = named_after(
+        span,
+        RPC_SYSTEM,
+        Text {
+            bytes: b".server.request",
+        },
+        scratch,
+        out,
+    ) {
         return n;
     }
-    if let Some(n) = triggered_name(span, text, out) {
+    if let Some(n) = named_after(span, FAAS_TRIGGER, Text { bytes: b".invoke" }, scratch, out) {
         return n;
     }
-    request_name(span, b"server.request", text, out)
+    request_name(
+        span,
+        Text {
+            bytes: b"server.request",
+        },
+        scratch,
+        out,
+    )
 }
 
 /// By a GraphQL operation, and else the fallback.
 fn graphql_or<S: OtelSpan>(
     span: &S,
-    fallback: &[u8],
-    text: &mut [u8; 4096],
+    fallback: Text<'_>,
+    scratch: &mut Scratch,
     out: &mut [u8; 8200],
 ) -> usize
-    requires { length fallback.now ≤ 100 }
-    ensures { Filled 8200 (or_absent (graphql_name (S.OtelSpan.reading span.now)) fallback.now) result out.new }
+    ensures { Filled 8200 (or_absent (graphql_name (S.OtelSpan.reading span.now)) fallback.entry.bytes.now) result out.new }
 {
-    match graphql_name(span, text, out) {
+    match graphql_name(span, scratch, out) {
         Some(n) => n,
-        None => compose(out, b"", b"", b"", fallback),
+        None => compose(out, b"", b"", b"", fallback.bytes),
     }
 }
 
 /// A producer or a consumer of messages.
 fn message_name<S: OtelSpan>(
     span: &S,
-    fallback: &[u8],
-    text: &mut [u8; 4096],
-    other: &mut [u8; 4096],
+    fallback: Text<'_>,
+    scratch: &mut Scratch,
     out: &mut [u8; 8200],
 ) -> usize
-    requires { length fallback.now ≤ 100 }
-    ensures { Filled 8200 (message_name (S.OtelSpan.reading span.now) fallback.now) result out.new }
+    ensures { Filled 8200 (message_name (S.OtelSpan.reading span.now) fallback.entry.bytes.now) result out.new }
 {
-    match messaging_name(span, text, other, out) {
+    match messaging_name(span, scratch, out) {
         Some(n) => n,
-        None => graphql_or(span, fallback, text, out),
+        None => graphql_or(span, fallback, scratch, out),
     }
 }
 
 /// By the kind of the span and the attributes present.
-fn name_by_kind<S: OtelSpan>(
-    span: &S,
-    text: &mut [u8; 4096],
-    other: &mut [u8; 4096],
-    out: &mut [u8; 8200],
-) -> usize
+fn name_by_kind<S: OtelSpan>(span: &S, scratch: &mut Scratch, out: &mut [u8; 8200]) -> usize
     ensures { Filled 8200 (name_by_kind (S.OtelSpan.reading span.now) (S.OtelSpan.reading span.now).kind) result out.new }
 {
     match span.span_kind() {
         SpanKind::Client if is_http(span) => compose(out, b"", b"", b"", b"http.client.request"),
         SpanKind::Server if is_http(span) => compose(out, b"", b"", b"", b"http.server.request"),
-        SpanKind::Client => client_name(span, text, other, out),
-        SpanKind::Server => server_name(span, text, other, out),
-        SpanKind::Producer => message_name(span, b"producer", text, other, out),
-        SpanKind::Consumer => message_name(span, b"consumer", text, other, out),
-        SpanKind::Internal => graphql_or(span, b"internal", text, out),
+        SpanKind::Client => client_name(span, scratch, out),
+        SpanKind::Server => server_name(span, scratch, out),
+        SpanKind::Producer => message_name(span, Text { bytes: b"producer" }, scratch, out),
+        SpanKind::Consumer => message_name(span, Text { bytes: b"consumer" }, scratch, out),
+        SpanKind::Internal => graphql_or(span, Text { bytes: b"internal" }, scratch, out),
     }
 }
 
@@ -301,11 +270,10 @@ fn name_by_kind<S: OtelSpan>(
 pub fn get_otel_operation_name_v2<S: OtelSpan>(span: &S, out: &mut [u8; 8200]) -> usize
     ensures { Filled 8200 (operation_name (S.OtelSpan.reading span.now)) result out.new }
 {
-    let mut text = [0u8; 4096];
+    let mut scratch = Scratch::new();
     if span.has_attr(OPERATION_NAME) {
-        let n = get_attr_str(span, OPERATION_NAME, &mut text);
-        return compose(out, b"", b"", b"", front(&text, n));
+        let n = get_attr_str(span, OPERATION_NAME, &mut scratch.text);
+        return compose(out, b"", b"", b"", Text::front(&scratch.text, n).bytes);
     }
-    let mut other = [0u8; 4096];
-    name_by_kind(span, &mut text, &mut other, out)
+    name_by_kind(span, &mut scratch, out)
 }

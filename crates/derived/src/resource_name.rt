@@ -1,37 +1,35 @@
-//! The resource name of a span.
-ghost use Rattle.std.specs.Prelude.{◌≡◌, ◌≤◌, length};
+//! The resource name of a span. Parameters stay apart, and names are tried one after the other, as in
+//! `operation_name`.
+ghost use Rattle.std.specs.Prelude.{◌≡◌};
 ghost use Rattle.readers.specs.Texts.{Filled, Offered, or_absent, if_given, res_span_text, places_of};
 ghost use Rattle.derived.specs.ResourceName.{beside, detailed, method_name, route_by, http_resource, messaging_resource, asked_text, database_resource, given_resource, resource_by_use, resource_name};
 
-use crate::texts::compose;
+use crate::texts::{Scratch, compose};
 use blocks::span_kind::SpanKind;
-use lent_bytes::tables::same;
 use names::attribute_keys::*;
 use readers::otel_util::{OtelSpan, get_res_span_attributes};
-use readers::texts::front;
+use readers::texts::Text;
 
 /// The first text under the keys, of the resource or of the span.
 fn res_span_text<'t, S: OtelSpan>(
     span: &S,
     keys: &[AttributeKey],
-    text: &'t mut [u8; 4096],
-) -> &'t [u8]
-    ensures text { result.now ≡ res_span_text (S.OtelSpan.reading span.now) (places_of keys.now) }
-    ensures short { length result.now ≤ 4096 }
+    memory: &'t mut [u8; 4096],
+) -> Text<'t>
+    ensures { result.bytes.now ≡ res_span_text (S.OtelSpan.reading span.now) (places_of keys.now) }
 {
-    let n = get_res_span_attributes(span, keys, text);
-    front(text, n)
+    let n = get_res_span_attributes(span, keys, memory);
+    Text::front(memory, n)
 }
 
 /// A text with a detail behind it, if there is one.
-fn with_detail(out: &mut [u8; 8200], text: &[u8], detail: &[u8]) -> usize
-    requires { (length text.now ≤ 4096) × (length detail.now ≤ 4096) }
-    ensures { Filled 8200 (beside text.now detail.now) result out.new }
+fn with_detail(out: &mut [u8; 8200], text: Text<'_>, detail: Text<'_>) -> usize
+    ensures { Filled 8200 (beside text.entry.bytes.now detail.entry.bytes.now) result out.new }
 {
     if detail.is_empty() {
-        return compose(out, b"", b"", b"", text);
+        return compose(out, b"", b"", b"", text.bytes);
     }
-    compose(out, b"", text, b" ", detail)
+    compose(out, b"", text.bytes, b" ", detail.bytes)
 }
 
 /// The text under some keys with the text under others behind it.
@@ -39,144 +37,131 @@ fn detailed_name<S: OtelSpan>(
     span: &S,
     keys: &[AttributeKey],
     details: &[AttributeKey],
-    text: &mut [u8; 4096],
-    other: &mut [u8; 4096],
+    scratch: &mut Scratch,
     out: &mut [u8; 8200],
 ) -> Option<usize>
     ensures { Offered 8200 (detailed (res_span_text (S.OtelSpan.reading span.now) (places_of keys.now)) (res_span_text (S.OtelSpan.reading span.now) (places_of details.now))) result out.old out.new }
 {
-    let name = res_span_text(span, keys, text);
+    let name = res_span_text(span, keys, &mut scratch.text);
     if name.is_empty() {
         return None;
     }
-    let detail = res_span_text(span, details, other);
+    let detail = res_span_text(span, details, &mut scratch.other);
     Some(with_detail(out, name, detail))
 }
 
 /// A method by its name.
-fn method_name(method: &[u8]) -> &[u8]
-    requires { length method.now ≤ 4096 }
-    ensures text { result.now ≡ method_name method.now }
-    ensures short { length result.now ≤ 4096 }
+fn method_name(method: Text<'_>) -> Text<'_>
+    ensures { result.bytes.now ≡ method_name method.entry.bytes.now }
 {
-    if same(method, b"_OTHER") {
-        b"HTTP"
+    if method.bytes == b"_OTHER".as_slice() {
+        Text { bytes: b"HTTP" }
     } else {
         method
     }
 }
 
 /// The route, which only a server knows.
-fn route<'t, S: OtelSpan>(span: &S, text: &'t mut [u8; 4096]) -> &'t [u8]
-    ensures text { result.now ≡ route_by (S.OtelSpan.reading span.now) (S.OtelSpan.reading span.now).kind }
-    ensures short { length result.now ≤ 4096 }
+fn route<'t, S: OtelSpan>(span: &S, memory: &'t mut [u8; 4096]) -> Text<'t>
+    ensures { result.bytes.now ≡ route_by (S.OtelSpan.reading span.now) (S.OtelSpan.reading span.now).kind }
 {
     match span.span_kind() {
-        SpanKind::Server => res_span_text(span, &[HTTP_ROUTE], text),
-        _ => b"",
+        SpanKind::Server => res_span_text(span, &[HTTP_ROUTE], memory),
+        _ => Text::empty(),
     }
 }
 
 fn http_resource<S: OtelSpan>(
     span: &S,
-    text: &mut [u8; 4096],
-    other: &mut [u8; 4096],
+    scratch: &mut Scratch,
     out: &mut [u8; 8200],
 ) -> Option<usize>
     ensures { Offered 8200 (http_resource (S.OtelSpan.reading span.now)) result out.old out.new }
 {
-    let method = res_span_text(span, &[HTTP_REQUEST_METHOD, HTTP_METHOD], text);
+    let method = res_span_text(span, &[HTTP_REQUEST_METHOD, HTTP_METHOD], &mut scratch.text);
     if method.is_empty() {
         return None;
     }
-    Some(with_detail(out, method_name(method), route(span, other)))
+    Some(with_detail(out, method_name(method), route(span, &mut scratch.other)))
 }
 
 /// What a database was asked.
-fn asked_text<'t, S: OtelSpan>(span: &S, text: &'t mut [u8; 4096]) -> &'t [u8]
-    ensures text { result.now ≡ asked_text (S.OtelSpan.reading span.now) }
-    ensures short { length result.now ≤ 4096 }
+fn asked_text<'t, S: OtelSpan>(span: &S, memory: &'t mut [u8; 4096]) -> Text<'t>
+    ensures { result.bytes.now ≡ asked_text (S.OtelSpan.reading span.now) }
 {
-    let n = get_res_span_attributes(span, &[DB_STATEMENT], text);
+    let n = get_res_span_attributes(span, &[DB_STATEMENT], memory);
     if n > 0 {
-        return front(text, n);
+        return Text::front(memory, n);
     }
-    res_span_text(span, &[DB_QUERY_TEXT], text)
+    res_span_text(span, &[DB_QUERY_TEXT], memory)
 }
 
 fn database_resource<S: OtelSpan>(
     span: &S,
-    text: &mut [u8; 4096],
+    scratch: &mut Scratch,
     out: &mut [u8; 8200],
 ) -> Option<usize>
     ensures { Offered 8200 (database_resource (S.OtelSpan.reading span.now)) result out.old out.new }
 {
-    let n = get_res_span_attributes(span, &[DB_SYSTEM_NAME, DB_SYSTEM], text);
+    let n = get_res_span_attributes(span, &[DB_SYSTEM_NAME, DB_SYSTEM], &mut scratch.text);
     if n == 0 {
         return None;
     }
-    let asked = asked_text(span, text);
+    let asked = asked_text(span, &mut scratch.text);
     if asked.is_empty() {
         return None;
     }
-    Some(compose(out, b"", b"", b"", asked))
+    Some(compose(out, b"", b"", b"", asked.bytes))
 }
 
 /// The attribute of that name.
 fn given_resource<S: OtelSpan>(
     span: &S,
-    text: &mut [u8; 4096],
+    scratch: &mut Scratch,
     out: &mut [u8; 8200],
 ) -> Option<usize>
     ensures { Offered 8200 (given_resource (S.OtelSpan.reading span.now)) result out.old out.new }
 {
-    let given = res_span_text(span, &[RESOURCE_NAME], text);
+    let given = res_span_text(span, &[RESOURCE_NAME], &mut scratch.text);
     if given.is_empty() {
         return None;
     }
-    Some(compose(out, b"", b"", b"", given))
+    Some(compose(out, b"", b"", b"", given.bytes))
 }
 
 /// The span's own name.
-fn own_name<S: OtelSpan>(span: &S, text: &mut [u8; 4096], out: &mut [u8; 8200]) -> usize
+fn own_name<S: OtelSpan>(span: &S, scratch: &mut Scratch, out: &mut [u8; 8200]) -> usize
     ensures { Filled 8200 (S.OtelSpan.reading span.now).name result out.new }
 {
-    let n = span.name(text);
-    compose(out, b"", b"", b"", front(text, n))
+    let n = span.name(&mut scratch.text);
+    compose(out, b"", b"", b"", Text::front(&scratch.text, n).bytes)
 }
 
 /// By what a span calls or asks, in this order, and else its name.
-fn resource_by_use<S: OtelSpan>(
-    span: &S,
-    text: &mut [u8; 4096],
-    other: &mut [u8; 4096],
-    out: &mut [u8; 8200],
-) -> usize
+fn resource_by_use<S: OtelSpan>(span: &S, scratch: &mut Scratch, out: &mut [u8; 8200]) -> usize
     ensures { Filled 8200 (resource_by_use (S.OtelSpan.reading span.now)) result out.new }
 {
-    if let Some(n) = detailed_name(span, &[RPC_METHOD], &[RPC_SERVICE], text, other, out) {
+    if let Some(n) = detailed_name(span, &[RPC_METHOD], &[RPC_SERVICE], scratch, out) {
         return n;
     }
     if let Some(n) = detailed_name(
         span,
         &[GRAPHQL_OPERATION_TYPE],
         &[GRAPHQL_OPERATION_NAME],
-        text,
-        other,
+        scratch,
         out,
     ) {
         return n;
     }
-    if let Some(n) = database_resource(span, text, out) {
+    if let Some(n) = database_resource(span, scratch, out) {
         return n;
     }
-    own_name(span, text, out)
+    own_name(span, scratch, out)
 }
 
 fn messaging_resource<S: OtelSpan>(
     span: &S,
-    text: &mut [u8; 4096],
-    other: &mut [u8; 4096],
+    scratch: &mut Scratch,
     out: &mut [u8; 8200],
 ) -> Option<usize>
     ensures { Offered 8200 (messaging_resource (S.OtelSpan.reading span.now)) result out.old out.new }
@@ -185,8 +170,7 @@ fn messaging_resource<S: OtelSpan>(
         span,
         &[MESSAGING_OPERATION_TYPE, MESSAGING_OPERATION],
         &[MESSAGING_DESTINATION, MESSAGING_DESTINATION_NAME],
-        text,
-        other,
+        scratch,
         out,
     )
 }
@@ -196,16 +180,15 @@ fn messaging_resource<S: OtelSpan>(
 pub fn get_otel_resource_v2<S: OtelSpan>(span: &S, out: &mut [u8; 8200]) -> usize
     ensures { Filled 8200 (resource_name (S.OtelSpan.reading span.now)) result out.new }
 {
-    let mut text = [0u8; 4096];
-    if let Some(n) = given_resource(span, &mut text, out) {
+    let mut scratch = Scratch::new();
+    if let Some(n) = given_resource(span, &mut scratch, out) {
         return n;
     }
-    let mut other = [0u8; 4096];
-    if let Some(n) = http_resource(span, &mut text, &mut other, out) {
+    if let Some(n) = http_resource(span, &mut scratch, out) {
         return n;
     }
-    if let Some(n) = messaging_resource(span, &mut text, &mut other, out) {
+    if let Some(n) = messaging_resource(span, &mut scratch, out) {
         return n;
     }
-    resource_by_use(span, &mut text, &mut other, out)
+    resource_by_use(span, &mut scratch, out)
 }

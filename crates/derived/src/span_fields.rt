@@ -8,8 +8,9 @@ use crate::db_types::check_db_type;
 use crate::texts::place;
 use blocks::span_kind::SpanKind;
 use names::attribute_keys::*;
-use readers::otel_util::{OtelSpan, get_attr_str, get_res_attributes, get_res_span_attributes};
-use readers::texts::front;
+use readers::first_texts::get_res_attributes;
+use readers::otel_util::{OtelSpan, get_attr_str, get_res_span_attributes};
+use readers::texts::Text;
 
 /// The service of a span whose span and resource name none.
 pub const DEFAULT_OTLP_SERVICE_NAME: &[u8] = b"otlpresourcenoservicename";
@@ -22,7 +23,7 @@ fn client_type<S: OtelSpan>(span: &S, out: &mut [u8; 4096]) -> usize
     if n == 0 {
         return place(out, b"http");
     }
-    let span_type = check_db_type(front(out, n));
+    let span_type = check_db_type(Text::front(out, n).bytes);
     place(out, span_type)
 }
 
@@ -75,10 +76,7 @@ pub fn get_otel_service<S: OtelSpan>(span: &S, out: &mut [u8; 4096]) -> usize
 fn narrow(number: Option<i64>) -> Option<u32>
     ensures { result ≡ narrowed number }
 {
-    match number {
-        Some(n) if n >= 0 && n < 0x1_0000_0000 => Some(n as u32),
-        _ => None,
-    }
+    u32::try_from(number?).ok()
 }
 
 /// The status code under a key.
@@ -92,8 +90,5 @@ pub(crate) fn code_under<S: OtelSpan>(span: &S, key: AttributeKey) -> Option<u32
 pub fn get_otel_status_code<S: OtelSpan>(span: &S) -> Option<u32>
     ensures { result ≡ status_code (S.OtelSpan.reading span.now) }
 {
-    match code_under(span, HTTP_RESPONSE_STATUS_CODE) {
-        Some(code) => Some(code),
-        None => code_under(span, HTTP_STATUS_CODE),
-    }
+    code_under(span, HTTP_RESPONSE_STATUS_CODE).or_else(|| code_under(span, HTTP_STATUS_CODE))
 }

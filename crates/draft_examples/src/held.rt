@@ -6,6 +6,7 @@ use blocks::span_kind::StatusCode;
 use drafts::draft::Draft;
 use drafts::refusal::answer_number;
 use std::test::Fail;
+use values::value::{Double, Scalar};
 
 // 128 attributes of the span; another is refused and counted, and a held key is still replaced.
 #[test]
@@ -108,19 +109,24 @@ fn statuses(rt: HostRuntime) -> Result<(), Fail> {
     Ok(())
 }
 
+/// A double by its pattern and its text.
+fn double(pattern: u64, text: &[u8]) -> Scalar<'_> {
+    Scalar::F64(Double { pattern, text })
+}
+
 /// Two events that each have the key `k`, and a span attribute of two kinds in turn.
 fn put_owners(m: &mut [u8]) {
     let Ok(draft) = Draft::start(m, &start_of(8)) else {
         return;
     };
     let mut draft = draft;
-    let _ = draft.set_i64(List::Span, b"k", -5);
+    let _ = draft.set_value(List::Span, b"k", Scalar::I64(-5));
     let _ = draft.event(b"e", 11);
-    let _ = draft.set_bool(List::EventAttribute, b"k", true);
+    let _ = draft.set_value(List::EventAttribute, b"k", Scalar::Bool(true));
     let _ = draft.event(b"f", 12);
-    let _ = draft.set_str(List::EventAttribute, b"k", b"first");
-    let _ = draft.set_str(List::EventAttribute, b"k", b"second");
-    let _ = draft.set_f64(List::Span, b"k", 4607182418800017408, b"1.0");
+    let _ = draft.set_value(List::EventAttribute, b"k", Scalar::String(b"first"));
+    let _ = draft.set_value(List::EventAttribute, b"k", Scalar::String(b"second"));
+    let _ = draft.set_value(List::Span, b"k", double(4607182418800017408, b"1.0"));
     let _ = draft.rename(b"renamed");
     let _ = draft.end(20);
 }
@@ -162,9 +168,9 @@ fn doubles(rt: HostRuntime) -> Result<(), Fail> {
     };
     let mut draft = draft;
     let numbers = [
-        answer_number(draft.set_f64(List::Span, b"k", 0, b"")),
-        answer_number(draft.set_f64(List::Span, b"k", 0, text(400))),
-        answer_number(draft.set_f64(List::Span, b"k", 0, text(401))),
+        answer_number(draft.set_value(List::Span, b"k", double(0, b""))),
+        answer_number(draft.set_value(List::Span, b"k", double(0, text(400)))),
+        answer_number(draft.set_value(List::Span, b"k", double(0, text(401)))),
     ];
     draft.discard();
     assert_eq!(rt; numbers, [8, 0, 8]);

@@ -46,7 +46,7 @@ pub fn start_number(memory: &mut [u8], start: &Start<'_>) -> u8 {
             draft.discard();
             0
         }
-        Err(refused) => refused.fault.number(),
+        Err(refused) => u8::from(refused.fault),
     }
 }
 

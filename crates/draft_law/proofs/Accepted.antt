@@ -2,7 +2,7 @@
 use Rattle.std.proofs.Common.{◌≡◌, ℕ, ◌+◌, ◌<◌, ◌≤◌, Bool, true, false, cond, ◌&&◌, eqb, leb, List, length, ℤ, pos, Some, None, IsUtf8, Option, sym, refl, ap, ◌∙◌, arith, w64, SFits, rules}
 use Rattle.std.specs.Option.{option_map}
 use Rattle.std.proofs.lemmas.Bool.Decides.{nat_tests}
-use Rattle.std.proofs.lemmas.Bool.{and_parts, or_parts, leb-true, leb-false, eqb-true, eq-eqb, both_ways}
+use Rattle.std.proofs.lemmas.Bool.{and_parts, and_from, or_parts, leb-true, leb-false, eqb-true, eq-eqb, both_ways}
 use Rattle.lent_bytes.specs.Memory.{Bytes}
 use Rattle.values.specs.Unicode.{is_text}
 use Rattle.values.specs.Faults.{value_fault}
@@ -108,14 +108,10 @@ set_tells m o l k n v bk bn bv h =
         link = λ e. absurd (ls.1.1 e);
         attribute = λ _ _. (refl, (value_clean n v bv).0 (mapped-none Value _ u.0));
       };
-      event_above = λ e. counted_stands m 3 (rows_in m) events_unowned (λ z. both_ways _ un.0 (and_both _ _ (eq-eqb l 4 e) (eq-eqb _ 0 z)));
-      link_above = λ e. counted_stands m 5 (rows_in m) links_unowned (λ z. both_ways _ un.1 (and_both _ _ (eq-eqb l 6 e) (eq-eqb _ 0 z)));
+      event_above = λ e. counted_stands m 3 (rows_in m) events_unowned (λ z. both_ways _ un.0 (and_from _ _ (eq-eqb l 4 e) (eq-eqb _ 0 z)));
+      link_above = λ e. counted_stands m 5 (rows_in m) links_unowned (λ z. both_ways _ un.1 (and_from _ _ (eq-eqb l 6 e) (eq-eqb _ 0 z)));
       room = u.1;
     }
-  where
-    and_both : (a b : Bool) → a ≡ true → b ≡ true → (a && b) ≡ true
-    and_both true b x y = y
-    and_both false b x y = x
 
 -- a new attribute, an event and a link have room
 pub set_room : (m : List ℕ) (l : ℕ) (k : List ℕ) (n : ℕ) (v : List ℕ) → place_from l k 0 (row_facts m) ≡ None → SetTells m None l k n v → Room m l k (attribute_content n v)

@@ -17,7 +17,9 @@ use Rattle.drafts.specs.Writes.{id_bytes, opening_texts, head_bytes, started}
 use Rattle.drafts.specs.Memory.{text_refusal, start_texts, start_memory, start_fault}
 use Rattle.block_laws.proofs.Kept.{Kept, byte_kept, byte_place, u16_kept, u16_place, u32_kept, u32_place, i64_kept, i64_place, id_kept, id_place, portion-place, behind, portion_first, portion-whole}
 use Rattle.block_laws.proofs.Sound.{Sound, Head, longest}
-use Rattle.draft_law.proofs.Octets.{low, bytes_of, bytes_append, bytes-written, zeros, bytes-zeros}
+use Rattle.drafts.specs.Code.{zeros}
+use Rattle.draft_law.proofs.Octets.{low, bytes_of, bytes_append, bytes-written, bytes-zeros}
+use Rattle.draft_law.proofs.Told.{text-lawful-at}
 use Rattle.draft_law.proofs.Accepted.{or_none, else_none, mapped-none, text_tells}
 use Rattle.blocks.proofs.Projected.{rows_mapped}
 
@@ -202,11 +204,7 @@ module _ (n : ℕ) (o : Opening) (sz : SizedOpening o) (ok : StartTells n o) whe
 
     text-lawful : k ≤ most → IsUtf8 t → TextLawful s (place_in s at) (length_in s at) most
     text-lawful m u =
-        let it : TextLawful s p k most = record { short = m; inside = omega (arith, inside, all, used); utf8 = subst IsUtf8 (sym (text_at p k inside ∙ is)) u } in
-        subst (λ x. TextLawful s x (length_in s at) most) (sym is-p) (subst (λ x. TextLawful s p x most) (sym is-k) it)
-
-  place_is : (a v : ℕ) → a + 4 ≤ 120 → u32_in hd a ≡ v → u32_in s a ≡ v
-  place_is a v l e = u32_is a l ∙ e
+        text-lawful-at s at p k most is-p is-k record { short = m; inside = omega (arith, inside, all, used); utf8 = subst IsUtf8 (sym (text_at p k inside ∙ is)) u }
 
   four_80 : u32_in s 80 ≡ 0
   unfolding portion

@@ -1,12 +1,13 @@
 -- What is written of bytes is bytes.
-use Rattle.std.proofs.Common.{◌≡◌, ℕ, zero, suc, ◌+◌, ◌-◌, ◌%◌, ◌<◌, ◌≤◌, List, [], ◌∷◌, ◌++◌, length, get_or, replicate, ⊎_elim, arith}
+use Rattle.std.proofs.Common.{◌≡◌, ℕ, zero, suc, ◌+◌, ◌-◌, ◌%◌, ◌<◌, ◌≤◌, List, [], ◌∷◌, ◌++◌, length, get_or, ⊎_elim, arith}
 use Rattle.std.proofs.lemmas.Bool.{cases_lt}
 use Rattle.std.proofs.lemmas.List.{get_or_past, get_or-replicate, length-replicate}
 use Rattle.lent_bytes.specs.Memory.{Bytes, written}
 use Rattle.lent_bytes.specs.Fields.{bytes2, bytes4, bytes8}
 use Rattle.lent_bytes.proofs.Frames.{length-written, get_or_before, get_or-after, get_or-within}
 use Rattle.blocks.specs.Layout.{Row}
-use Rattle.drafts.specs.Writes.{row_bytes, id_bytes}
+use Rattle.drafts.specs.Writes.{row_bytes}
+use Rattle.drafts.specs.Code.{zeros}
 
 -- byte by byte
 abbrev pub Octets : List ℕ → Type 0
@@ -56,9 +57,6 @@ octets_four v = (low _, (low _, (low _, (low _, tt))))
 pub octets_eight : (v : ℕ) → Octets (bytes8 v)
 octets_eight v = (low _, (low _, (low _, (low _, (low _, (low _, (low _, (low _, tt))))))))
 
-pub octets_id : (v : ℕ) → Octets (id_bytes v)
-octets_id v = (low _, (low _, (low _, (low _, (low _, (low _, (low _, (low _, tt))))))))
-
 pub bytes-two : (v : ℕ) → Bytes (bytes2 v)
 bytes-two v = bytes_of (bytes2 v) (octets_two v)
 
@@ -69,9 +67,6 @@ pub bytes-row : (x : Row) → x.list < 256 → x.kind < 256 → Bytes (row_bytes
 bytes-row x l k = bytes_of (row_bytes x) (l, (k, (low _, (low _, (low _, (low _, (low _, (low _, (low _, (low _, (low _, (low _, (low _, (low _, (low _, (low _, (low _, (low _, (low _, (low _, (low _, (low _, (low _, (low _, tt))))))))))))))))))))))))
 
 -- zeros
-abbrev pub zeros : ℕ → List ℕ
-zeros n = replicate n 0
-
 pub zero-at : (n i : ℕ) → get_or (zeros n) i 0 ≡ 0
 zero-at n i = ⊎_elim (λ (h : i < n). get_or-replicate n i 0 0 h) (λ (h : n ≤ i). get_or_past (zeros n) i 0 (omega (arith, length-replicate {A = ℕ} n 0))) (cases_lt i n)
 

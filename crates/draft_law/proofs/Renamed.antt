@@ -8,6 +8,7 @@ use Rattle.blocks.specs.Faults.{list_in}
 use Rattle.blocks.specs.Faults.{key_in}
 use Rattle.blocks.specs.Facts.{facts, header_text, row_facts, status_of}
 use Rattle.blocks.specs.Lawful.{TextLawful}
+use Rattle.blocks.specs.declared.span_kind.StatusCode.{StatusCode}
 use Rattle.drafts.specs.Held.{Outcome}
 use Rattle.drafts.specs.Writes.{headed, drop_more}
 use Rattle.block_laws.proofs.Kept.{Kept, byte_kept, byte_place, u32_place, behind, ahead, narrow, portion-none}
@@ -15,7 +16,7 @@ use Rattle.block_laws.proofs.Sound.{Sound, Step, Head, head_80, head_88, head_96
 use Rattle.block_laws.proofs.Listed.{rows_same}
 use Rattle.draft_law.proofs.Headed.{pair_place, pair-length, headed-start, headed-front, headed-behind, has_place, has_length, has_text, headed-step, status-step, flat_step}
 use Rattle.draft_law.proofs.Octets.{bytes_of, bytes_append, bytes-written, bytes-four}
-use Rattle.draft_law.proofs.Told.{outcome_of, changed, head-kept, head-lawful, facts-step}
+use Rattle.draft_law.proofs.Told.{outcome_of, changed, text-lawful-at, head-kept, head-lawful, facts-step}
 
 -- a step of the header alone changes no row
 abbrev Ids : List ℕ → List ℕ → ℕ → Type 0
@@ -56,10 +57,7 @@ module _ (m : List ℕ) (so : Sound m) (h : ℕ) (hd : Head h) (t : List ℕ) (r
 
   own_lawful : TextLawful y (place_in y h) (length_in y h) (longest h)
   own_lawful =
-      let a = has_place m so h hd t room in
-      let b = has_length m so h hd t room in
-      let it : TextLawful y (used_in m) (length t) (longest h) = record { short = short; inside = omega (arith, st.used); utf8 = subst IsUtf8 (sym text_is) utf8 } in
-      subst (λ p. TextLawful y p (length_in y h) (longest h)) (sym a) (subst (λ n. TextLawful y (used_in m) n (longest h)) (sym b) it)
+      text-lawful-at y h _ _ (longest h) (has_place m so h hd t room) (has_length m so h hd t room) record { short = short; inside = omega (arith, st.used); utf8 = subst IsUtf8 (sym text_is) utf8 }
 
   pub headed-sound : Sound y
   headed-sound =
@@ -108,37 +106,35 @@ described m so t room short u b =
     let n = head-kept m y _ _ _ so st 80 head_80 (other_kept m so 112 hd t room short u b 80 head_80 (λ e. omega arith)) in
     (headed-sound m so 112 hd t room short u b, headed-facts m so 112 hd t room short u b (record { code = (facts m).status; description = t }) refl (headed_is m so 112 hd t room short u b) _ n (inr refl))
 
+-- a number of the header away from the places of its texts
+number-set : (m : List ℕ) (so : Sound m) (at : ℕ) (s : List ℕ) → Step m (written m at s) (capacity_in m) (rows_in m) (used_in m) → Bytes s → status_in (written m at s) ≤ 2
+    → Kept m (written m at s) 16 64 → ((g : ℕ) → Head g → Kept m (written m at s) g (g + 8)) → (c : StatusCode) → status_of (status_in (written m at s)) ≡ c
+    → Sound (written m at s) × (facts (written m at s) ≡ changed (facts m) (record { code = c; description = (facts m).description }) (facts m).name (row_facts m))
+number-set m so at s st bs le ids k c is =
+    let z = written m at s in
+    let hk : (g : ℕ) (gd : Head g) → header_text z g ≡ header_text m g = λ g gd. head-kept m z _ _ _ so st g gd (k g gd) in (
+      head-sound m z _ so st (bytes-written m at s so.bytes bs) le (λ g gd. head-lawful m z _ _ _ so st g gd (k g gd)),
+      facts-step m z ids (kind-step m z _ _ _ so st)
+          (record { code = c; description = (facts m).description }) is (hk 112 head_112)
+          (facts m).name (hk 80 head_80) (hk 88 head_88) (hk 96 head_96) (hk 104 head_104)
+          (row_facts m) (rows_same m z _ _ so st so.rows),
+    )
+
 -- a status alone
 pub status-set : (m : List ℕ) (so : Sound m) (s : ℕ) → s ≤ 2
     → Sound (written m 11 (s ∷ [])) × (facts (written m 11 (s ∷ [])) ≡ changed (facts m) (record { code = status_of s; description = (facts m).description }) (facts m).name (row_facts m))
 status-set m so s le =
     let z = written m 11 (s ∷ []) in
-    let st = status-step m so 11 (s ∷ []) refl refl in
     let is : status_in z ≡ s = byte_place m 11 (s ∷ []) 11 0 (omega arith) (omega (arith, so.offset, so.used)) (omega arith) in
-    let k : (g : ℕ) → Head g → Kept m z g (g + 8) = λ g gd. ahead m 11 (s ∷ []) _ _ (omega (arith, gd.0)) in
-    let hk : (g : ℕ) (gd : Head g) → header_text z g ≡ header_text m g = λ g gd. head-kept m z _ _ _ so st g gd (k g gd) in (
-      head-sound m z _ so st (bytes-written m 11 (s ∷ []) so.bytes (bytes_of (s ∷ []) (omega arith, tt))) (omega arith) (λ g gd. head-lawful m z _ _ _ so st g gd (k g gd)),
-      facts-step m z (ahead m 11 (s ∷ []) _ _ (omega arith)) (kind-step m z _ _ _ so st)
-          (record { code = status_of s; description = (facts m).description }) (ap status_of is) (hk 112 head_112)
-          (facts m).name (hk 80 head_80) (hk 88 head_88) (hk 96 head_96) (hk 104 head_104)
-          (row_facts m) (rows_same m z _ _ so st so.rows),
-    )
+    number-set m so 11 (s ∷ []) (status-step m so 11 (s ∷ []) refl refl) (bytes_of (s ∷ []) (omega arith, tt)) (omega arith) (ahead m 11 (s ∷ []) _ _ (omega arith)) (λ g gd. ahead m 11 (s ∷ []) _ _ (omega (arith, gd.0))) (status_of s) (ap status_of is)
 
 -- one more that was dropped
 pub dropped : (m : List ℕ) (so : Sound m) (at : ℕ) → 64 ≤ at → at ≤ 72 → Sound (drop_more m at) × (facts (drop_more m at) ≡ facts m)
 dropped m so at low high =
     let s = bytes4 (min 4294967295 (u32_in m at + 1)) in
     let z = drop_more m at in
-    let st = flat_step m so at s (omega arith) (omega arith) (inl (omega arith)) in
-    let k : (g : ℕ) → Head g → Kept m z g (g + 8) = λ g gd. ahead m at s _ _ (omega (arith, gd.0)) in
-    let hk : (g : ℕ) (gd : Head g) → header_text z g ≡ header_text m g = λ g gd. head-kept m z _ _ _ so st g gd (k g gd) in
-    let same = byte_kept m z 0 64 (behind m at s _ _ (omega arith)) 11 (omega arith) (omega arith) in (
-      head-sound m z _ so st (bytes-written m at s so.bytes (bytes-four _)) (omega (arith, same, so.status)) (λ g gd. head-lawful m z _ _ _ so st g gd (k g gd)),
-      facts-step m z (behind m at s _ _ (omega arith)) (kind-step m z _ _ _ so st)
-          (outcome_of (facts m)) (ap status_of same) (hk 112 head_112)
-          (facts m).name (hk 80 head_80) (hk 88 head_88) (hk 96 head_96) (hk 104 head_104)
-          (row_facts m) (rows_same m z _ _ so st so.rows),
-    )
+    let same = byte_kept m z 0 64 (behind m at s _ _ (omega arith)) 11 (omega arith) (omega arith) in
+    number-set m so at s (flat_step m so at s (omega arith) (omega arith) (inl (omega arith))) (bytes-four _) (omega (arith, same, so.status)) (behind m at s _ _ (omega arith)) (λ g gd. ahead m at s _ _ (omega (arith, gd.0))) (facts m).status (ap status_of same)
 
 -- no description
 pub undescribed : (m : List ℕ) (so : Sound m)
@@ -153,9 +149,7 @@ undescribed m so =
     let none : text_in z 0 0 ≡ [] = portion-none z _ in
     let k : (g : ℕ) → Head g → (g ≡ 112 → ⊥) → Kept m z g (g + 8) = λ g gd ne. behind m 112 s _ _ (let a = gd.1.0 in let b = gd.1.1 in let lt : g < 112 = grind arith in omega arith) in
     let hk : (g : ℕ) (gd : Head g) → (g ≡ 112 → ⊥) → header_text z g ≡ header_text m g = λ g gd ne. head-kept m z _ _ _ so st g gd (k g gd ne) in
-    let own : TextLawful z (place_in z 112) (length_in z 112) (longest 112) =
-    let it : TextLawful z 0 0 (longest 112) = record { short = omega arith; inside = omega arith; utf8 = subst IsUtf8 (sym none) ([], (refl, refl)) } in
-    subst (λ a. TextLawful z a (length_in z 112) (longest 112)) (sym p) (subst (λ a. TextLawful z 0 a (longest 112)) (sym n) it) in
+    let own = text-lawful-at z 112 0 0 (longest 112) p n record { short = omega arith; inside = omega arith; utf8 = subst IsUtf8 (sym none) ([], (refl, refl)) } in
     let same = byte_kept m z 0 112 (behind m 112 s _ _ (omega arith)) 11 (omega arith) (omega arith) in (
       head-sound m z _ so st (bytes-written m 112 s so.bytes (bytes_append (bytes4 0) (bytes4 0) (bytes-four 0) (bytes-four 0))) (omega (arith, same, so.status))
           (λ g gd. ⊎_elim

@@ -8,15 +8,15 @@ use Rattle.blocks.specs.Facts.{RowFact, facts, fact_at, row_fact, row_facts}
 use Rattle.blocks.specs.Lawful.{ValueLawful, RowLawful}
 use Rattle.drafts.specs.Held.{Content}
 use Rattle.drafts.specs.Search.{place_from}
-use Rattle.drafts.specs.Writes.{row_bytes, rowed, valued}
-use Rattle.block_laws.proofs.Kept.{byte_kept, narrow, portion-whole}
-use Rattle.block_laws.proofs.Sound.{Sound, Step, offset_step, text-step, text-lawful-step, list-step, key_step, above_step, sound-step}
+use Rattle.drafts.specs.Writes.{rowed, valued}
+use Rattle.block_laws.proofs.Kept.{narrow, portion-whole}
+use Rattle.block_laws.proofs.Sound.{Sound, Step, offset_step, text-step, text-lawful-step, list-step, key_step, above_step}
 use Rattle.block_laws.proofs.Listed.{length-rows, get_or-rows, rows_replace}
 use Rattle.draft_law.proofs.Rowed.{Fit, rowed-fixed, rowed-front, rowed-step, is_row, text_stands}
-use Rattle.draft_law.proofs.Octets.{bytes-written, bytes-two, bytes-four, bytes-row}
+use Rattle.draft_law.proofs.Octets.{bytes-row}
 use Rattle.draft_law.proofs.Tagged.{row_from, put, put_some, Placed}
-use Rattle.draft_law.proofs.Told.{outcome_of, changed, head-lawful}
-use Rattle.draft_law.proofs.Said.{Said, longest-key, rows-facts}
+use Rattle.draft_law.proofs.Told.{outcome_of, changed}
+use Rattle.draft_law.proofs.Said.{Said, longest-key, rows-facts, rowed-sound}
 
 module _ (m : List ℕ) (so : Sound m) (l : ℕ) (k : List ℕ) (c : Content) (sa : Said l k c) (n3 : l ≡ 3 → ⊥) (n5 : l ≡ 5 → ⊥) (j : ℕ) (found : place_from l k 0 (row_facts m) ≡ Some j) (fits : offset_in m + (used_in m + length c.value) ≤ length m) where
   abbrev q : Row
@@ -104,12 +104,7 @@ module _ (m : List ℕ) (so : Sound m) (l : ℕ) (k : List ℕ) (c : Content) (s
       }
 
   pub replaced_sound : Sound w
-  replaced_sound =
-      sound-step m w _ _ _ so st ids
-      (bytes-written _ _ _ (bytes-written _ _ _ (bytes-written _ _ _ (bytes-written m (row_place j) (row_bytes x) so.bytes (bytes-row x (omega (arith, was.list)) sa.kind_byte)) sa.value_bytes) (bytes-two _)) (bytes-four _))
-      (omega (arith, byte_kept m w _ _ (rowed-fixed m so j (rows_in m) x t ok) 11 (omega arith) (omega arith), so.status))
-      (λ h hd. head-lawful m w _ _ _ so st h hd (narrow m w _ _ _ _ (rowed-front m so j (rows_in m) x t ok) (omega (arith, hd.0)) (omega (arith, hd.1.0))))
-      (λ lt. subst (λ (y : Row). RowLawful w j y.list y) (sym raw) lawful)
+  replaced_sound = rowed-sound m so j (rows_in m) x t ok (bytes-row x (omega (arith, was.list)) sa.kind_byte) sa.value_bytes ids lawful
 
   pub replaced_facts : facts w ≡ changed (facts m) (outcome_of (facts m)) (facts m).name (put l k c (row_facts m))
   replaced_facts =

@@ -64,6 +64,19 @@ rows-facts m m' j n u so st a b rs e =
     (head-kept m m' j n u so st 104 head_104 (k 104 head_104))
     rs e
 
+-- memory with a row written is sound where the row is lawful
+pub rowed-sound : (m : List ℕ) (so : Sound m) (j n : ℕ) (x : Row) (t : List ℕ) → Fit m j n x t → Bytes (row_bytes x) → Bytes t
+    → (j < rows_in m → (list_in (rowed m j n x t) j ≡ list_in m j) × (key_in (rowed m j n x t) (row_at (rowed m j n x t) (row_place j)) ≡ key_in m (row_at m (row_place j))))
+    → RowLawful (rowed m j n x t) j x.list x → Sound (rowed m j n x t)
+rowed-sound m so j n x t ok bx bt ids lawful =
+    let w = rowed m j n x t in
+    let st = rowed-step m so j n x t ok in
+    sound-step m w _ _ _ so st ids
+    (bytes-written _ _ _ (bytes-written _ _ _ (bytes-written _ _ _ (bytes-written m (row_place j) (row_bytes x) so.bytes bx) bt) (bytes-two _)) (bytes-four _))
+    (omega (arith, byte_kept m w _ _ (rowed-fixed m so j n x t ok) 11 (omega arith) (omega arith), so.status))
+    (λ h hd. head-lawful m w _ _ _ so st h hd (narrow m w _ _ _ _ (rowed-front m so j n x t ok) (omega (arith, hd.0)) (omega (arith, hd.1.0))))
+    (λ lt. subst (λ (y : Row). RowLawful w j y.list y) (sym (is_row m so j n x t ok)) lawful)
+
 -- one row more
 module _ (m : List ℕ) (so : Sound m) (l : ℕ) (k : List ℕ) (c : Content) (sa : Said l k c) (ro : Room m l k c) where
   abbrev r : ℕ
@@ -156,13 +169,7 @@ module _ (m : List ℕ) (so : Sound m) (l : ℕ) (k : List ℕ) (c : Content) (s
       }
 
   pub appended_sound : Sound w
-  appended_sound =
-      let fr = rowed-front m so r (r + 1) x t ok in
-      sound-step m w _ _ _ so st ids
-      (bytes-written _ _ _ (bytes-written _ _ _ (bytes-written _ _ _ (bytes-written m (row_place r) (row_bytes x) so.bytes (bytes-row x (omega (arith, sa.list)) sa.kind_byte)) (bytes_append k c.value sa.key_bytes sa.value_bytes)) (bytes-two _)) (bytes-four _))
-      (omega (arith, byte_kept m w _ _ (rowed-fixed m so r (r + 1) x t ok) 11 (omega arith) (omega arith), so.status))
-      (λ h hd. head-lawful m w _ _ _ so st h hd (narrow m w _ _ _ _ fr (omega (arith, hd.0)) (omega (arith, hd.1.0))))
-      (λ lt. subst (λ (y : Row). RowLawful w r y.list y) (sym raw) lawful)
+  appended_sound = rowed-sound m so r (r + 1) x t ok (bytes-row x (omega (arith, sa.list)) sa.kind_byte) (bytes_append k c.value sa.key_bytes sa.value_bytes) ids lawful
 
   pub appended_facts : (rs : List RowFact) → rs ≡ row_facts m ++ row_from l k c ∷ [] → facts w ≡ changed (facts m) (outcome_of (facts m)) (facts m).name rs
   appended_facts rs e =

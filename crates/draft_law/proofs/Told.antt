@@ -30,6 +30,10 @@ changed f o n rs =
       rows = rs;
     }
 
+-- a header text whose place and length are known
+pub text-lawful-at : (z : List ℕ) (h p n most : ℕ) → place_in z h ≡ p → length_in z h ≡ n → TextLawful z p n most → TextLawful z (place_in z h) (length_in z h) most
+text-lawful-at z h p n most a b t = subst (λ x. TextLawful z x (length_in z h) most) (sym a) (subst (λ y. TextLawful z p y most) (sym b) t)
+
 module _ (m m' : List ℕ) (j n u : ℕ) (so : Sound m) (st : Step m m' j n u) (h : ℕ) (hd : Head h) (k : Kept m m' h (h + 8)) where
   same_place : place_in m' h ≡ place_in m h
   same_place = u32_kept m m' _ _ k h (omega arith) (omega arith)
@@ -41,9 +45,7 @@ module _ (m m' : List ℕ) (j n u : ℕ) (so : Sound m) (st : Step m m' j n u) (
   head-kept = (λ x. text_in m' (same_place x) (same_length x)) ∙ text-step m m' j n u so st (place_in m h) (length_in m h) (so.heads h hd).inside
 
   pub head-lawful : TextLawful m' (place_in m' h) (length_in m' h) (longest h)
-  head-lawful =
-      let t = text-lawful-step m m' j n u so st _ _ _ (so.heads h hd) in
-      subst (λ x. TextLawful m' x (length_in m' h) (longest h)) (sym same_place) (subst (λ y. TextLawful m' (place_in m h) y (longest h)) (sym same_length) t)
+  head-lawful = text-lawful-at m' h _ _ (longest h) same_place same_length (text-lawful-step m m' j n u so st _ _ _ (so.heads h hd))
 
 -- all facts, from those that a call may change
 pub facts-step : (m m' : List ℕ) → Kept m m' 16 64 → kind_in m' ≡ kind_in m

@@ -1,5 +1,5 @@
 -- What a call answers and leaves, by its refusal.
-use Rattle.std.proofs.Common.{◌≡◌, ℕ, ◌<◌, ◌≤◌, Bool, true, false, cond, ◌||◌, eqb, List, Some, None, Ok, Err, Option, sym, refl, ap, ◌∙◌, arith}
+use Rattle.std.proofs.Common.{◌≡◌, ℕ, ◌<◌, ◌≤◌, Bool, true, false, cond, ◌||◌, eqb, List, Some, None, Ok, Err, Option, sym, refl, ◌∙◌, arith}
 use Rattle.std.proofs.lemmas.Bool.Decides.{nat_tests}
 use Rattle.std.proofs.lemmas.Bool.{le-leb, lt-leb, eqb-true, or_right}
 use Rattle.blocks.specs.declared.span_kind.StatusCode.TheVariants.{Unset as StatusUnset, Ok as StatusOk, Error as StatusError}
@@ -63,13 +63,10 @@ refused-set m l k n v f e = refused m (Set l k n v) f (e ∙ set-chain m l k n v
 pub changed-set : (m : List ℕ) (l : ℕ) (k : List ℕ) (n : ℕ) (v : List ℕ) → None ≡ set_chain m l k n v → Changes m (Set l k n v)
 changed-set m l k n v e = changed m (Set l k n v) (e ∙ set-chain m l k n v) refl
 
--- a refused call that counts nothing
+-- where nothing is counted
 same-both : {X : Type 0} (b : Bool) (x : X) → cond b x x ≡ x
 same-both true x = refl
 same-both false x = refl
-
-pub still : (m : List ℕ) (c : Call) (f : Refusal) → counted m c ≡ m → Refuses m c f → after m c ≡ m
-still m c f e r = r.after_is ∙ ap (λ x. cond (full_refusal f) x m) e ∙ same-both (full_refusal f) m
 
 -- statuses by their numbers
 ok_is : (n : ℕ) → status_of n ≡ StatusOk → eqb n 1 ≡ true

@@ -1,5 +1,5 @@
 pub mod Places
 pub mod Answered
-pub mod Appended
+pub mod Wrapped
 pub mod Started
 pub mod Unformed

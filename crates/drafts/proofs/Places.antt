@@ -1,9 +1,10 @@
 -- Where a row stands, as the code looks for it.
-use Rattle.std.proofs.Common.{◌≡◌, ℕ, zero, suc, ◌+◌, ◌-◌, ◌<◌, ◌≤◌, Bool, true, false, cond, ◌&&◌, eqb, ◌⊎◌, List, [], ◌∷◌, length, get_or, drop, Some, None, sym, refl, ap, ◌∙◌, inl, inr, arith}
+use Rattle.std.proofs.Common.{◌≡◌, ℕ, zero, suc, ◌+◌, ◌-◌, ◌<◌, ◌≤◌, Bool, true, false, cond, ◌&&◌, eqb, ◌⊎◌, List, [], ◌∷◌, length, drop, Some, sym, refl, ap, ◌∙◌, inl, inr, arith}
 use Rattle.std.specs.Str.{bytes_eq}
+use Rattle.std.specs.List.{find, range_with_len}
 use Rattle.std.proofs.lemmas.List.{drop_more, drop_all, drop-drop}
-use Rattle.std.proofs.lemmas.Bool.{cond-true, cond-false, eq-eqb, ne_eqb}
-use Rattle.std.proofs.lemmas.List.FromFn.{length-map-range_with_len, get_or-map-range_with_len}
+use Rattle.std.proofs.Math.Bool.{and-true, and-false}
+use Rattle.std.proofs.lemmas.Bool.{cond-false, eq-eqb, ne_eqb}
 use Rattle.blocks.specs.declared.lists.List.{List as ListCase}
 use Rattle.blocks.specs.declared.lists.List.TheVariants.{Span, Resource, Scope, Event, EventAttribute, Link, LinkAttribute}
 use Rattle.blocks.specs.Lists.{list_number}
@@ -13,7 +14,7 @@ use Rattle.blocks.specs.Facts.{RowFact, row_fact, row_facts}
 use Rattle.blocks.specs.Faults.{counted, above}
 use Rattle.drafts.specs.Search.{count, ownerless, hit, place_from}
 use Rattle.drafts.specs.Code.{plain_from}
-use Rattle.blocks.proofs.Projected.{rows_mapped}
+use Rattle.blocks.proofs.Projected.{length-rows, get_or-rows}
 
 -- the counts of rows, one row further
 pub above-none : (m : List ℕ) (l : ℕ) → 0 ≡ above m l 0
@@ -25,12 +26,6 @@ unfolding above
 above-next m l i = let e : i + 1 ≡ suc i = omega arith in rw e
 
 -- the row i and those behind it
-length-rows : (m : List ℕ) → length (row_facts m) ≡ rows_in m
-length-rows m = ap length (rows_mapped m) ∙ length-map-range_with_len (row_fact m) 0 (rows_in m)
-
-get_or-rows : (m : List ℕ) (i : ℕ) (d : RowFact) → i < rows_in m → get_or (row_facts m) i d ≡ row_fact m i
-get_or-rows m i d h = ap (λ xs. get_or xs i d) (rows_mapped m) ∙ get_or-map-range_with_len (row_fact m) 0 (rows_in m) i i d h (omega arith)
-
 pub rows_more : (m : List ℕ) (i : ℕ) → i < rows_in m → drop i (row_facts m) ≡ row_fact m i ∷ drop (i + 1) (row_facts m)
 rows_more m i h =
     let e = get_or-rows m i (row_fact m i) h in
@@ -60,25 +55,20 @@ count-here m h i lt e = rw (rows_more m i lt, eq-eqb (list_in m i) h e) (omega a
 pub count-not : (m : List ℕ) (h i : ℕ) → i < rows_in m → (list_in m i ≡ h → ⊥) → count h (drop i (row_facts m)) ≡ count h (drop (i + 1) (row_facts m))
 count-not m h i lt ne = rw (rows_more m i lt, ne_eqb (list_in m i) h ne) (omega arith)
 
--- the loop
-module _ (m : List ℕ) (l : ℕ) (k : List ℕ) (i : ℕ) where
-  pub plain_hit : i < rows_in m → (eqb (row_fact m i).list l && bytes_eq (row_fact m i).key k) ≡ true → plain_from l k i (drop i (row_facts m)) ≡ Some i
-  plain_hit h e = ap (plain_from l k i) (rows_more m i h) ∙ cond-true _ _ _ e
+-- the row j has this list and key
+abbrev pub is_keyed : List ℕ → ℕ → List ℕ → ℕ → Bool
+is_keyed m l k j = eqb (row_fact m j).list l && bytes_eq (row_fact m j).key k
 
-  pub plain_miss : i < rows_in m → (eqb (row_fact m i).list l && bytes_eq (row_fact m i).key k) ≡ false → plain_from l k i (drop i (row_facts m)) ≡ plain_from l k (i + 1) (drop (i + 1) (row_facts m))
-  plain_miss h e = ap (plain_from l k i) (rows_more m i h) ∙ cond-false _ _ _ e
+-- the search from i on, over n rows
+found-by : (m : List ℕ) (l : ℕ) (k : List ℕ) (i n : ℕ) → i + n ≡ rows_in m → find (is_keyed m l k) (range_with_len i n) ≡ plain_from l k i (drop i (row_facts m))
+found-by m l k i zero e = ap (plain_from l k i) (sym (rows_all m i (omega arith)))
+found-by m l k i (suc n) e =
+    ap (λ o. cond (is_keyed m l k i) (Some i) o) (found-by m l k (i + 1) n (omega arith)) ∙ ap (plain_from l k i) (sym (rows_more m i (omega arith)))
 
-  pub plain_none : rows_in m ≤ i → plain_from l k i (drop i (row_facts m)) ≡ None
-  plain_none h = ap (plain_from l k i) (rows_all m i h)
-
-pub ruleset plains = (plain_hit, plain_miss, plain_none)
+pub found-keyed : (m : List ℕ) (l : ℕ) (k : List ℕ) (i : ℕ) → i ≤ rows_in m → find (is_keyed m l k) (range_with_len i (rows_in m - i)) ≡ plain_from l k i (drop i (row_facts m))
+found-keyed m l k i h = found-by m l k i (rows_in m - i) (omega arith)
 
 -- where nothing from here on begins another owner, each row counts
-and_true : (a b : Bool) → (a && (b && true)) ≡ (a && b)
-and_true true true = refl
-and_true true false = refl
-and_true false b = refl
-
 abbrev Settled : ℕ → List RowFact → Type 0
 Settled l [] = Unit {0}
 Settled l (r ∷ rs) = (ownerless l (r ∷ rs) ≡ true) × Settled l rs
@@ -86,22 +76,17 @@ Settled l (r ∷ rs) = (ownerless l (r ∷ rs) ≡ true) × Settled l rs
 plain_place : (l : ℕ) (k : List ℕ) (i : ℕ) (rs : List RowFact) → Settled l rs → place_from l k i rs ≡ plain_from l k i rs
 plain_place l k i [] h = refl
 plain_place l k i (r ∷ rs) h =
-    let c : hit l k r rs ≡ (eqb r.list l && bytes_eq r.key k) = ap (λ z. eqb r.list l && (bytes_eq r.key k && z)) h.0 ∙ and_true (eqb r.list l) (bytes_eq r.key k) in
+    let c : hit l k r rs ≡ (eqb r.list l && bytes_eq r.key k) = ap (λ z. eqb r.list l && (bytes_eq r.key k && z)) h.0 ∙ ap (λ z. eqb r.list l && z) (and-true (bytes_eq r.key k)) in
     let ih = plain_place l k (i + 1) rs h.1 in
     ap (λ b. cond b (Some i) (place_from l k (i + 1) rs)) c ∙ ap (λ o. cond (eqb r.list l && bytes_eq r.key k) (Some i) o) ih
 
 -- rows before an owner do not count
-and_false : (a b : Bool) → (a && (b && false)) ≡ false
-and_false true true = refl
-and_false true false = refl
-and_false false b = refl
-
 skip : (l : ℕ) (k : List ℕ) (i n : ℕ) (rs : List RowFact) → ((j : ℕ) → j < n → j < length rs → ownerless l (drop j rs) ≡ false) → n ≤ length rs → place_from l k i rs ≡ place_from l k (i + n) (drop n rs)
 skip l k i zero rs h le = let e : i + 0 ≡ i = omega arith in rw e
 skip l k i (suc n) [] h le = absurd (omega arith)
 skip l k i (suc n) (r ∷ rs) h le =
     let z : ownerless l (r ∷ rs) ≡ false = h 0 (omega arith) (omega arith) in
-    let x : hit l k r rs ≡ false = ap (λ z. eqb r.list l && (bytes_eq r.key k && z)) z ∙ and_false (eqb r.list l) (bytes_eq r.key k) in
+    let x : hit l k r rs ≡ false = ap (λ z. eqb r.list l && (bytes_eq r.key k && z)) z ∙ ap (λ z. eqb r.list l && z) (and-false (bytes_eq r.key k)) ∙ and-false (eqb r.list l) in
     let ih = skip l k (i + 1) n rs (λ j lt len. h (suc j) (omega arith) (omega arith)) (omega arith) in
     let e : i + 1 + n ≡ i + suc n = omega arith in
     cond-false (hit l k r rs) _ _ x ∙ ih ∙ ap (λ y. place_from l k y (drop n rs)) e

@@ -1,5 +1,5 @@
 -- What the code answers on the way.
-use Rattle.std.specs.Prelude.{ℕ, ◌+◌, ◌≤◌, Bool, cond, ◌&&◌, List, [], ◌∷◌, ◌++◌, length, replicate, Some, None, Option, ◌==◌}
+use Rattle.std.specs.Prelude.{ℕ, ◌+◌, ◌≤◌, Bool, false, cond, ◌&&◌, List, [], ◌∷◌, ◌++◌, length, replicate, Some, None, Option, ◌==◌}
 use Rattle.std.specs.Str.{bytes_eq}
 use Rattle.std.specs.Option.{option_map}
 use Rattle.values.specs.Faults.{value_fault}
@@ -7,12 +7,15 @@ use Rattle.blocks.specs.First.{or_else}
 use Rattle.blocks.specs.Facts.{RowFact, row_facts}
 use Rattle.drafts.specs.declared.refusal.Refusal.{Refusal}
 use Rattle.drafts.specs.declared.refusal.Refusal.TheVariants.{List as NoList, Owner, Value}
+use Rattle.drafts.specs.declared.write.Entry.{Entry}
 use Rattle.drafts.specs.declared.write.RowNumbers.{RowNumbers}
 use Rattle.lent_bytes.specs.Memory.{written}
 use Rattle.lent_bytes.specs.Fields.{bytes2, bytes4, ints8}
 use Rattle.blocks.specs.Layout.{Row, row_place}
+use Rattle.drafts.specs.Held.{Content}
 use Rattle.drafts.specs.Writes.{id_bytes}
 use Rattle.drafts.specs.Calls.{Opening}
+use Rattle.drafts.specs.Refused.{full_refusal}
 use Rattle.drafts.specs.Search.{place_from}
 use Rattle.drafts.specs.Memory.{settable, unowned, key_refusal, room_of_set}
 
@@ -31,10 +34,18 @@ owner_refusal m l = cond (unowned m l) (Some Owner) None
 abbrev pub content_refusal : List ℕ → ℕ → List ℕ → ℕ → List ℕ → Option Refusal
 content_refusal m l k n v = or_else (key_refusal k) (or_else (option_map Value (value_fault n v)) (room_of_set m (place_from l k 0 (row_facts m)) l (length k) (length v)))
 
+-- a check refused since the list is full
+abbrev pub is_full : Option Refusal → Bool
+is_full None = false
+is_full (Some f) = full_refusal f
+
 abbrev pub set_chain : List ℕ → ℕ → List ℕ → ℕ → List ℕ → Option Refusal
 set_chain m l k n v = or_else (list_refusal l) (or_else (owner_refusal m l) (content_refusal m l k n v))
 
--- what the code's row means
+-- what the code's entry and its row mean
+abbrev pub content_of : Entry → Content
+content_of e = record { kind = e.kind; value = e.value.now; time = e.time }
+
 abbrev pub numbers_of : RowNumbers → Row
 numbers_of r =
     record {
@@ -72,7 +83,3 @@ placed m o =
 -- memory of n zeros
 abbrev pub zeros : ℕ → List ℕ
 zeros n = replicate n 0
-
--- the value of an attribute that is true or false
-abbrev pub flag_bytes : Bool → List ℕ
-flag_bytes b = cond b 1 0 ∷ []

@@ -1,12 +1,10 @@
 //! Calls as values, so that a list of them can be replayed.
-ghost use Rattle.std.specs.Prelude.{◌≡◌};
-ghost use Rattle.drafts.specs.Memory.{answer, after};
-ghost use Rattle.drafts.specs.Said.{call_of};
+ghost use Rattle.drafts.specs.Said.{Made, call_of};
 
 use crate::draft::Draft;
 use crate::refusal::{Applied, Refusal};
 
-/// A call, with what it is given.
+/// A call, with what it is given. Lists, kinds and statuses are the numbers that were sent, named or not.
 #[derive(Clone, Copy)]
 pub enum Call<'t> {
     Set {
@@ -35,9 +33,7 @@ pub enum Call<'t> {
 impl<'a> Draft<'a> {
     /// Makes a call.
     pub fn apply(&mut self, call: Call<'_>) -> Result<Applied, Refusal>
-        ensures answer { result ≡ answer self.old.mem.now (call_of call.entry) }
-        ensures after { self.new.mem.now ≡ after self.old.mem.now (call_of call.entry) }
-        ensures named { self.new.mem.ghost_name ≡ self.old.mem.ghost_name }
+        ensures { Made self.old self.new (call_of call.entry) result }
     {
         match call {
             Call::Set {

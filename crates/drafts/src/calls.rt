@@ -1,23 +1,23 @@
-//! The calls on memory: what they answer, and what they leave.
-ghost use Rattle.std.specs.Prelude.{◌≡◌, ◌≤◌, [], length, pos, if◌then◌else◌, Some, None, Ok, nat_eq};
-ghost use Rattle.drafts.specs.Refused.{accepted, full_refusal};
+//! What calls do to memory: rows, counts and the status. The memory is handed on as bytes and has no type of
+//! its own, since it may hold anything and no fact stands of it.
+ghost use Rattle.std.specs.Prelude.{◌≡◌, [], if◌then◌else◌, Some, None, nat_eq};
+ghost use Rattle.std.specs.Result.{result_err};
 ghost use Rattle.blocks.specs.Lists.{list_number};
 ghost use Rattle.blocks.specs.Facts.{status_of};
 ghost use Rattle.blocks.specs.Layout.{status_in};
 ghost use Rattle.drafts.specs.declared.refusal.Applied.TheVariants.{Changed};
-ghost use Rattle.drafts.specs.Code.{numbers_of};
-ghost use Rattle.drafts.specs.Held.{attribute_content};
+ghost use Rattle.drafts.specs.Refused.{accepted};
+ghost use Rattle.drafts.specs.Code.{content_of, numbers_of, is_full};
 ghost use Rattle.drafts.specs.Writes.{new_row, stored, drop_more, status_written};
-ghost use Rattle.drafts.specs.Calls.{Set, Event, Link, Rename};
-ghost use Rattle.drafts.specs.Memory.{head_refusal, answered, answer, after};
+ghost use Rattle.drafts.specs.Memory.{head_refusal, answered};
 
-use crate::checks::{Place, check_event, check_head, check_link, check_set};
+use crate::checks::{Place, check_head};
 use crate::refusal::{Applied, Refusal};
-use crate::write::{RowNumbers, count_one, put_head, put_row};
+use crate::write::{Entry, RowNumbers, count_one, put_head, put_row};
 use blocks::layout::raw_row;
 use blocks::lists::List;
 use blocks::span_kind::StatusCode;
-use lent_bytes::fields::{u16_at, u32_at};
+use lent_bytes::fields::Number;
 use lent_bytes::memory::{byte, write};
 
 /// Where a value is placed: an event has none, and its place is 0.
@@ -31,146 +31,103 @@ fn value_place(list: List, behind: usize) -> usize
 }
 
 /// A new row, with its key and then its value behind the text in use.
-fn new_row(used: u32, list: List, key: &[u8], kind: u8, value: &[u8], time: i64) -> RowNumbers
-    ensures { numbers_of result ≡ new_row used (list_number list) key.now (record { kind = kind; value = value.now; time = time }) }
+fn new_row(used: u32, list: List, entry: &Entry<'_>) -> RowNumbers
+    ensures { numbers_of result ≡ new_row used (list_number list) entry.now.key.now (content_of entry.now) }
 {
     let used = used as usize;
     RowNumbers {
-        list: list.number(),
-        kind,
-        key_length: key.len(),
+        list: u8::from(list),
+        kind: entry.kind,
+        key_length: entry.key.len(),
         key_place: used,
-        value_length: value.len(),
-        value_place: value_place(list, used + key.len()),
-        time,
+        value_length: entry.value.len(),
+        value_place: value_place(list, used + entry.key.len()),
+        time: entry.time,
     }
 }
 
 /// Appends a row with its key and value.
-fn append(m: &mut [u8], list: List, key: &[u8], kind: u8, value: &[u8], time: i64)
-    requires key { length key.now ≤ 65536 }
-    requires value { length value.now ≤ 65536 }
-    ensures { m.new ≡ stored m.old None (list_number list) key.now (record { kind = kind; value = value.now; time = time }) }
+pub(crate) fn append(m: &mut [u8], list: List, entry: &Entry<'_>)
+    ensures { m.new ≡ stored m.old None (list_number list) entry.now.key.now (content_of entry.now) }
 {
-    let rows = u16_at(m, 2);
-    let row = new_row(u32_at(m, 12), list, key, kind, value, time);
-    put_row(m, rows, rows as usize + 1, row, key, value);
+    let rows = u16::read(m, 2);
+    let row = new_row(u32::read(m, 12), list, entry);
+    put_row(m, rows, rows as usize + 1, row, entry.key, entry.value);
 }
 
 /// Puts another kind and value into the row `i`.
-fn replace(m: &mut [u8], i: u16, kind: u8, value: &[u8])
-    requires { length value.now ≤ 65536 }
-    ensures { m.new ≡ stored m.old (Some i) 0 [] (record { kind = kind; value = value.now; time = pos 0 }) }
+fn replace(m: &mut [u8], i: u16, entry: &Entry<'_>)
+    ensures { m.new ≡ stored m.old (Some i) 0 [] (content_of entry.now) }
 {
     let old = raw_row(m, i);
-    let rows = u16_at(m, 2) as usize;
+    let rows = u16::read(m, 2) as usize;
     let row = RowNumbers {
         list: old.list,
-        kind,
+        kind: entry.kind,
         key_length: old.key_length as usize,
         key_place: old.key_place as usize,
-        value_length: value.len(),
-        value_place: u32_at(m, 12) as usize,
-        time: 0,
+        value_length: entry.value.len(),
+        value_place: u32::read(m, 12) as usize,
+        time: entry.time,
     };
-    put_row(m, i, rows, row, b"", value);
+    put_row(m, i, rows, row, b"", entry.value);
 }
 
 /// Puts an attribute where it goes.
-fn put_attribute(m: &mut [u8], place: Place, key: &[u8], kind: u8, value: &[u8])
-    requires key { length key.now ≤ 65536 }
-    requires value { length value.now ≤ 65536 }
-    ensures { m.new ≡ stored m.old place.row (list_number place.list) key.now (attribute_content kind value.now) }
+pub(crate) fn put_attribute(m: &mut [u8], place: Place, entry: &Entry<'_>)
+    ensures { m.new ≡ stored m.old place.row (list_number place.list) entry.now.key.now (content_of entry.now) }
 {
     match place.row {
-        None => append(m, place.list, key, kind, value, 0),
-        Some(i) => replace(m, i, kind, value),
+        None => append(m, place.list, entry),
+        Some(i) => replace(m, i, entry),
     }
 }
 
-/// Counts what was refused since its list is full.
-fn count_full(m: &mut [u8], refusal: Refusal, at: usize)
-    ensures { m.new ≡ (if full_refusal refusal then drop_more m.old at else m.old) }
+/// Counts a call that was refused since its list is full, and hands its answer on.
+pub(crate) fn counting<T>(
+    checked: Result<T, Refusal>,
+    m: &mut [u8],
+    at: usize,
+) -> Result<T, Refusal>
+    ensures same { result ≡ checked }
+    ensures counted { m.new ≡ (if is_full (result_err checked) then drop_more m.old at else m.old) }
 {
-    match refusal {
-        Refusal::ListFull => count_one(m, at),
-        _ => {}
+    if let Err(Refusal::ListFull) = &checked {
+        count_one(m, at);
     }
+    checked
 }
 
-/// Counts an attribute of the span that was refused since their list is full.
-fn count_attribute(m: &mut [u8], refusal: Refusal, list: u8)
-    ensures { m.new ≡ (if full_refusal refusal then (if nat_eq list 0 then drop_more m.old 64 else m.old) else m.old) }
-{
-    if list == 0 {
-        count_full(m, refusal, 64);
-    }
-}
-
-/// Sets an attribute.
-pub(crate) fn set_in(
+/// Counts an attribute of the span that was refused since their list is full, and hands the answer on. The list is the
+/// number that was sent.
+pub(crate) fn counting_attribute<T>(
+    checked: Result<T, Refusal>,
     m: &mut [u8],
     list: u8,
-    key: &[u8],
-    kind: u8,
-    value: &[u8],
-) -> Result<Applied, Refusal>
-    ensures answer { result ≡ answer m.old (Set list key.now kind value.now) }
-    ensures after { m.new ≡ after m.old (Set list key.now kind value.now) }
+) -> Result<T, Refusal>
+    ensures same { result ≡ checked }
+    ensures counted { m.new ≡ (if is_full (result_err checked) then (if nat_eq list 0 then drop_more m.old 64 else m.old) else m.old) }
 {
-    match check_set(m, list, key, kind, value) {
-        Ok(place) => {
-            put_attribute(m, place, key, kind, value);
-            Ok(Applied::Changed)
-        }
-        Err(refusal) => {
-            count_attribute(m, refusal, list);
-            Err(refusal)
-        }
+    if list == u8::from(List::Span) {
+        counting(checked, m, 64)
+    } else {
+        checked
     }
-}
-
-/// Adds an event.
-pub(crate) fn event_in(m: &mut [u8], title: &[u8], time: i64) -> Result<Applied, Refusal>
-    ensures answer { result ≡ answer m.old (Event title.now time) }
-    ensures after { m.new ≡ after m.old (Event title.now time) }
-{
-    if let Err(refusal) = check_event(m, title) {
-        count_full(m, refusal, 68);
-        return Err(refusal);
-    }
-    append(m, List::Event, title, 0, b"", time);
-    Ok(Applied::Changed)
-}
-
-/// Adds a link.
-pub(crate) fn link_in(m: &mut [u8], trace_state: &[u8], value: &[u8]) -> Result<Applied, Refusal>
-    ensures answer { result ≡ answer m.old (Link trace_state.now value.now) }
-    ensures after { m.new ≡ after m.old (Link trace_state.now value.now) }
-{
-    if let Err(refusal) = check_link(m, trace_state, value) {
-        count_full(m, refusal, 72);
-        return Err(refusal);
-    }
-    append(m, List::Link, trace_state, 0, value, 0);
-    Ok(Applied::Changed)
 }
 
 /// The status held.
 pub(crate) fn held_status(m: &[u8]) -> StatusCode
     ensures { result ≡ status_of (status_in m.now) }
 {
-    StatusCode::from_number(byte(m, 11))
+    StatusCode::from(byte(m, 11))
 }
 
 /// Holds Ok, with no description.
-pub(crate) fn put_ok(m: &mut [u8]) -> Result<Applied, Refusal>
-    ensures answer { result ≡ Ok Changed }
-    ensures after { m.new ≡ status_written m.old 1 [] }
+pub(crate) fn put_ok(m: &mut [u8])
+    ensures { m.new ≡ status_written m.old 1 [] }
 {
     write(m, 112, &[0; 8]);
-    write(m, 11, &[1]);
-    Ok(Applied::Changed)
+    write(m, 11, &[u8::from(StatusCode::Ok)]);
 }
 
 /// Holds Error, with a description, if it fits.
@@ -180,18 +137,6 @@ pub(crate) fn put_error(m: &mut [u8], description: &[u8]) -> Result<Applied, Ref
 {
     check_head(m, 1024, description)?;
     put_head(m, 112, description);
-    write(m, 11, &[2]);
-    Ok(Applied::Changed)
-}
-
-/// Gives the span another name.
-pub(crate) fn rename_in(m: &mut [u8], title: &[u8]) -> Result<Applied, Refusal>
-    ensures answer { result ≡ answer m.old (Rename title.now) }
-    ensures after { m.new ≡ after m.old (Rename title.now) }
-{
-    if let Err(refusal) = check_head(m, 255, title) {
-        return Err(refusal);
-    }
-    put_head(m, 80, title);
+    write(m, 11, &[u8::from(StatusCode::Error)]);
     Ok(Applied::Changed)
 }

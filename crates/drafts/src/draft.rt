@@ -1,24 +1,26 @@
 //! A span that is being recorded, in lent memory.
-ghost use Rattle.std.specs.Prelude.{◌≡◌, true, [], length, if◌then◌else◌, Some, None, Ok, MatchResult};
-ghost use Rattle.blocks.specs.Facts.{status_of};
-ghost use Rattle.blocks.specs.Layout.{status_in};
-ghost use Rattle.drafts.specs.declared.refusal.Applied.TheVariants.{Changed};
-ghost use Rattle.drafts.specs.Refused.{accepted};
+ghost use Rattle.std.specs.Prelude.{◌≡◌, true, length, Some, None, MatchResult};
 ghost use Rattle.drafts.specs.Calls.{opening_of, Set, Event, Link, Status, Rename};
 ghost use Rattle.drafts.specs.Code.{zeros};
-ghost use Rattle.drafts.specs.Writes.{status_written, started, ended};
-ghost use Rattle.drafts.specs.Memory.{start_fault, head_refusal, answered, answer, after};
+ghost use Rattle.drafts.specs.Writes.{started, ended};
+ghost use Rattle.drafts.specs.Memory.{start_fault};
+ghost use Rattle.drafts.specs.Said.{Made};
 
-use crate::calls::{event_in, held_status, link_in, put_error, put_ok, rename_in, set_in};
+use crate::calls::{
+    append, counting, counting_attribute, held_status, put_attribute, put_error, put_ok,
+};
+use crate::checks::{check_event, check_head, check_link, check_set};
 use crate::refusal::{Applied, Refusal, StartFault};
-use crate::start::{Start, start_fault, start_in};
-use crate::write::clear;
+use crate::start::{Start, check_start};
+use crate::write::{Entry, clear, put_head};
+use blocks::lists::List;
 use blocks::sdk_span::SdkSpan;
 use blocks::span_kind::StatusCode;
-use lent_bytes::fields::put_i64;
+use lent_bytes::fields::Number;
 use lent_bytes::memory::write;
 
-/// What a draft holds until it is ended or discarded: it can be let go only once it is spent.
+/// What a draft holds until it is ended or discarded: it can be let go only once it is spent. The flag lets
+/// the check ask for a proof of that; a token with no drop would be refused by the language, spent or not.
 pub struct Token {
     spent: bool,
 }
@@ -54,103 +56,107 @@ pub struct StartRefused<'a> {
 fn end_in(m: &mut [u8], end_time: i64)
     ensures { m.new ≡ ended m.old end_time }
 {
-    put_i64(m, 56, end_time);
+    end_time.put(m, 56);
     write(m, 76, &[1]);
 }
 
+// A call borrows the memory once, as `m`: after each borrow of its own through `self` a proof would know no
+// more of it.
 impl<'a> Draft<'a> {
     /// Starts a draft, or hands the memory back as it was.
     pub fn start(memory: &'a mut [u8], start: &Start<'_>) -> Result<Draft<'a>, StartRefused<'a>>
         ensures { MatchResult result (λ d. (start_fault (length memory.old) (opening_of start.now) ≡ None) × (d.mem.now ≡ started (length memory.old) (opening_of start.now)) × (d.mem.ghost_name ≡ memory.entry.ghost_name)) (λ e. (start_fault (length memory.old) (opening_of start.now) ≡ Some e.fault) × (e.memory.now ≡ memory.old) × (e.memory.ghost_name ≡ memory.entry.ghost_name)) }
     {
-        if let Err(fault) = start_fault(memory.len(), start) {
-            return Err(StartRefused { fault, memory });
+        match check_start(memory.len(), start) {
+            Err(fault) => Err(StartRefused { fault, memory }),
+            Ok(checked) => {
+                checked.start_in(memory);
+                Ok(Draft {
+                    mem: memory,
+                    token: Token { spent: false },
+                })
+            }
         }
-        start_in(memory, start);
-        Ok(Draft {
-            mem: memory,
-            token: Token { spent: false },
-        })
     }
 
     /// Sets an attribute of the span, the resource or the scope (lists 0, 1 and 2), of the newest event (4)
-    /// or of the newest link (6): the value of the row that has its key, or a new row.
+    /// or of the newest link (6): the value of the row that has its key, or a new row. List and kind are the
+    /// numbers that were sent, since one that names nothing is refused under a number of its own.
     pub fn set(&mut self, list: u8, key: &[u8], kind: u8, value: &[u8]) -> Result<Applied, Refusal>
-        ensures answer { result ≡ answer self.old.mem.now (Set list key.now kind value.now) }
-        ensures after { self.new.mem.now ≡ after self.old.mem.now (Set list key.now kind value.now) }
-        ensures named { self.new.mem.ghost_name ≡ self.old.mem.ghost_name }
+        ensures { Made self.old self.new (Set list key.now kind value.now) result }
     {
-        set_in(self.mem, list, key, kind, value)
+        let entry = Entry {
+            key,
+            kind,
+            value,
+            time: 0,
+        };
+        let m = &mut *self.mem;
+        let place = counting_attribute(check_set(m, list, &entry), m, list)?;
+        put_attribute(m, place, &entry);
+        Ok(Applied::Changed)
     }
 
     /// Adds an event, by its name and its time in nanoseconds since 1970.
     pub fn event(&mut self, title: &[u8], time: i64) -> Result<Applied, Refusal>
-        ensures answer { result ≡ answer self.old.mem.now (Event title.now time) }
-        ensures after { self.new.mem.now ≡ after self.old.mem.now (Event title.now time) }
-        ensures named { self.new.mem.ghost_name ≡ self.old.mem.ghost_name }
+        ensures { Made self.old self.new (Event title.now time) result }
     {
-        event_in(self.mem, title, time)
+        let m = &mut *self.mem;
+        counting(check_event(m, title), m, 68)?;
+        let entry = Entry {
+            key: title,
+            kind: 0,
+            value: b"",
+            time,
+        };
+        append(m, List::Event, &entry);
+        Ok(Applied::Changed)
     }
 
     /// Adds a link, by its trace state and its value: trace id, span id and flags, 25 bytes.
     pub fn link(&mut self, trace_state: &[u8], value: &[u8]) -> Result<Applied, Refusal>
-        ensures answer { result ≡ answer self.old.mem.now (Link trace_state.now value.now) }
-        ensures after { self.new.mem.now ≡ after self.old.mem.now (Link trace_state.now value.now) }
-        ensures named { self.new.mem.ghost_name ≡ self.old.mem.ghost_name }
+        ensures { Made self.old self.new (Link trace_state.now value.now) result }
     {
-        link_in(self.mem, trace_state, value)
-    }
-
-    /// The status held.
-    fn held_status(&self) -> StatusCode
-        ensures { result ≡ status_of (status_in self.now.mem.now) }
-    {
-        held_status(self.mem)
-    }
-
-    /// Holds Ok, with no description.
-    fn hold_ok(&mut self) -> Result<Applied, Refusal>
-        ensures answer { result ≡ Ok Changed }
-        ensures after { self.new.mem.now ≡ status_written self.old.mem.now 1 [] }
-        ensures named { self.new.mem.ghost_name ≡ self.old.mem.ghost_name }
-    {
-        put_ok(self.mem)
-    }
-
-    /// Holds Error, with a description, if it fits.
-    fn hold_error(&mut self, description: &[u8]) -> Result<Applied, Refusal>
-        ensures answer { result ≡ answered (head_refusal self.old.mem.now 1024 description.now) Changed }
-        ensures after { self.new.mem.now ≡ (if accepted result then status_written self.old.mem.now 2 description.now else self.old.mem.now) }
-        ensures named { self.new.mem.ghost_name ≡ self.old.mem.ghost_name }
-    {
-        put_error(self.mem, description)
+        let m = &mut *self.mem;
+        counting(check_link(m, trace_state, value), m, 72)?;
+        let entry = Entry {
+            key: trace_state,
+            kind: 0,
+            value,
+            time: 0,
+        };
+        append(m, List::Link, &entry);
+        Ok(Applied::Changed)
     }
 
     /// Sets the status, 0 to 2 for Unset, Ok and Error. Ok is final, Unset replaces nothing, and only Error
-    /// has a description.
+    /// has a description. The code is the number that was sent, since one above 2 is refused.
     pub fn status(&mut self, code: u8, description: &[u8]) -> Result<Applied, Refusal>
-        ensures answer { result ≡ answer self.old.mem.now (Status code description.now) }
-        ensures after { self.new.mem.now ≡ after self.old.mem.now (Status code description.now) }
-        ensures named { self.new.mem.ghost_name ≡ self.old.mem.ghost_name }
+        ensures { Made self.old self.new (Status code description.now) result }
     {
         if code > 2 {
             return Err(Refusal::Status);
         }
-        match (self.held_status(), StatusCode::from_number(code)) {
+        let m = &mut *self.mem;
+        match (held_status(m), StatusCode::from(code)) {
             (StatusCode::Ok, _) => Ok(Applied::Unchanged),
             (_, StatusCode::Unset) => Ok(Applied::Unchanged),
-            (_, StatusCode::Ok) => self.hold_ok(),
-            (_, StatusCode::Error) => self.hold_error(description),
+            (_, StatusCode::Ok) => {
+                put_ok(m);
+                Ok(Applied::Changed)
+            }
+            (_, StatusCode::Error) => put_error(m, description),
         }
     }
 
     /// Gives the span another name.
     pub fn rename(&mut self, title: &[u8]) -> Result<Applied, Refusal>
-        ensures answer { result ≡ answer self.old.mem.now (Rename title.now) }
-        ensures after { self.new.mem.now ≡ after self.old.mem.now (Rename title.now) }
-        ensures named { self.new.mem.ghost_name ≡ self.old.mem.ghost_name }
+        ensures { Made self.old self.new (Rename title.now) result }
     {
-        rename_in(self.mem, title)
+        let m = &mut *self.mem;
+        check_head(m, 255, title)?;
+        put_head(m, 80, title);
+        Ok(Applied::Changed)
     }
 
     /// Ends the draft: nothing can be set any more.

@@ -5,6 +5,7 @@ pub mod call;
 mod calls;
 mod checks;
 pub mod draft;
+mod opening;
 pub mod refusal;
 mod rows;
 pub mod start;

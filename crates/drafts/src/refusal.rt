@@ -16,12 +16,12 @@ pub enum Applied {
     Unchanged,
 }
 
-impl Applied {
-    /// The number under which this is answered.
-    pub fn number(self) -> u8
-        ensures { result ≡ applied_number self }
-    {
-        match self {
+/// The number under which this is answered.
+impl From<Applied> for u8 {
+    ghost from_gives = { λ a r. r ≡ applied_number a };
+
+    fn from(applied: Applied) -> u8 {
+        match applied {
             Applied::Changed => 0,
             Applied::Unchanged => 1,
         }
@@ -53,18 +53,18 @@ pub enum Refusal {
     Status,
 }
 
-impl Refusal {
-    /// The number under which this refusal is answered.
-    pub fn number(self) -> u8
-        ensures { result ≡ refusal_number self }
-    {
-        match self {
+/// The number under which this refusal is answered.
+impl From<Refusal> for u8 {
+    ghost from_gives = { λ f r. r ≡ refusal_number f };
+
+    fn from(refusal: Refusal) -> u8 {
+        match refusal {
             Refusal::List => 20,
             Refusal::Owner => 21,
             Refusal::Key => 7,
             Refusal::KeyNotUtf8 => 5,
-            Refusal::Value(fault) => fault.number(),
-            Refusal::Text(fault) => fault.number(),
+            Refusal::Value(fault) => u8::from(fault),
+            Refusal::Text(fault) => u8::from(fault),
             Refusal::ListFull => 22,
             Refusal::RowsFull => 23,
             Refusal::NoRoom => 13,
@@ -73,13 +73,14 @@ impl Refusal {
     }
 }
 
-/// The number of an answer: 0 applied, 1 nothing changed, and each refusal's own.
+/// The number of an answer: 0 applied, 1 nothing changed, and each refusal's own. No `impl From`, since
+/// neither `Result` nor `u8` is a type of this crate.
 pub fn answer_number(answer: Result<Applied, Refusal>) -> u8
     ensures { result ≡ answer_number answer }
 {
     match answer {
-        Ok(applied) => applied.number(),
-        Err(refusal) => refusal.number(),
+        Ok(applied) => u8::from(applied),
+        Err(refusal) => u8::from(refusal),
     }
 }
 
@@ -96,15 +97,15 @@ pub enum StartFault {
     NoRoom,
 }
 
-impl StartFault {
-    /// The number under which this fault is answered.
-    pub fn number(self) -> u8
-        ensures { result ≡ start_number self }
-    {
-        match self {
+/// The number under which this fault is answered.
+impl From<StartFault> for u8 {
+    ghost from_gives = { λ f r. r ≡ start_number f };
+
+    fn from(fault: StartFault) -> u8 {
+        match fault {
             StartFault::Kind => 11,
             StartFault::Memory => 12,
-            StartFault::Text(fault) => fault.number(),
+            StartFault::Text(fault) => u8::from(fault),
             StartFault::NoRoom => 13,
         }
     }

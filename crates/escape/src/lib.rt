@@ -30,15 +30,10 @@ fn printed_len(text: &[u8]) -> usize
     if text.len() <= PRINTED {
         return text.len();
     }
-    if !continues(text[PRINTED]) {
-        PRINTED
-    } else if !continues(text[PRINTED - 1]) {
-        PRINTED - 1
-    } else if !continues(text[PRINTED - 2]) {
-        PRINTED - 2
-    } else {
-        PRINTED - 3
-    }
+    (PRINTED - 2..PRINTED + 1)
+        .rev()
+        .find(|end| !continues(text[*end]))
+        .unwrap_or(PRINTED - 3)
 }
 
 fn write_escape<W: fmt::Write>(f: &mut fmt::Formatter<W>, b: u8) -> fmt::Result {
@@ -53,7 +48,7 @@ fn write_escape<W: fmt::Write>(f: &mut fmt::Formatter<W>, b: u8) -> fmt::Result 
 fn is_escaped(c: char) -> bool
     ensures { result ≡ nat_lt c 32 || (nat_le 127 c && nat_lt c 160) || (c == 92) }
 {
-    c < ' ' || (c >= '\x7f' && c < '\u{a0}') || c == '\\'
+    c.is_control() || c == '\\'
 }
 
 fn write_char<W: fmt::Write>(f: &mut fmt::Formatter<W>, c: char) -> fmt::Result {

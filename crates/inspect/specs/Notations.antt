@@ -1,25 +1,16 @@
--- The words that name kinds.
-use Rattle.std.specs.Prelude.{◌≡◌, ℕ, cond, List, [], ◌∷◌, Some, None, codes, Option, nat_lt, slice_index_or}
+-- The words by which a line says how its value is written.
+use Rattle.std.specs.Prelude.{◌≡◌, ℕ, cond, List, Some, codes, Option}
 use Rattle.std.specs.Option.{option_map}
 use Rattle.std.specs.Str.{bytes_eq}
-use Rattle.lent_bytes.specs.Lookup.{index_from}
-use Rattle.values.specs.Kinds.{kind_of, kind_number}
+use Rattle.notation.specs.Kinds.{kind_in}
+use Rattle.values.specs.KindNames.{name_of_kind}
 use Rattle.values.specs.declared.kinds.ValueKind.{ValueKind}
-use Rattle.inspect.specs.declared.notation.Notation.{Notation}
-use Rattle.inspect.specs.declared.notation.Notation.TheVariants.{Typed, Raw}
-
-abbrev pub kind_names : List (List ℕ)
-kind_names =
-    codes "bool" ∷ codes "int" ∷ codes "double" ∷ codes "string" ∷ codes "bools" ∷ codes "ints" ∷ codes "doubles" ∷ codes "strings" ∷ []
-
--- the kind whose number is the place
-abbrev pub kind_at : Option ℕ → Option ValueKind
-kind_at None = None
-kind_at (Some n) = cond (nat_lt n 256) (kind_of n) None
+use Rattle.inspect.specs.declared.named.Notation.{Notation}
+use Rattle.inspect.specs.declared.named.Notation.TheVariants.{Typed, Raw}
 
 abbrev pub notation_of : List ℕ → Option Notation
-notation_of name = cond (bytes_eq name (codes "raw")) (Some Raw) (option_map Typed (kind_at (index_from 0 name kind_names)))
+notation_of name = cond (bytes_eq name (codes "raw")) (Some Raw) (option_map Typed (kind_in name))
 
 -- each kind's name is read as that kind
 abbrev pub NamesReadBack : Type 0
-NamesReadBack = (k : ValueKind) → notation_of (slice_index_or kind_names (kind_number k) []) ≡ Some (Typed k)
+NamesReadBack = (k : ValueKind) → notation_of (name_of_kind k) ≡ Some (Typed k)

@@ -1,12 +1,12 @@
 //! A line as an attribute: its key, the number of its kind, and the bytes of its value.
-use crate::cut::{cut, word};
-use crate::element::value_bytes;
-use crate::fault::LineFault;
-use crate::hex;
-use crate::notation::Notation;
+use crate::named::Notation;
+use notation::cut::{cut, word};
+use notation::element::{number_of, value_bytes};
+use notation::fault::LineFault;
+use notation::hex;
 use std::alloc::Global;
-use std::str::from_utf8;
 
+/// The kind is a number, since a line may name one that no kind has.
 #[derive(Drop)]
 pub struct Attribute<'a> {
     pub key: &'a [u8],
@@ -16,26 +16,6 @@ pub struct Attribute<'a> {
 
 /// The most bytes that a raw value may have.
 const RAW_BYTES: usize = 1_048_576;
-
-fn kind_number(text: &[u8]) -> Result<u8, LineFault> {
-    let Ok(text) = from_utf8(text) else {
-        return Err(LineFault::NotKindNumber);
-    };
-    match text.parse::<u8>() {
-        Ok(number) => Ok(number),
-        Err(_) => Err(LineFault::NotKindNumber),
-    }
-}
-
-fn count_of(text: &[u8]) -> Result<usize, LineFault> {
-    let Ok(text) = from_utf8(text) else {
-        return Err(LineFault::NotCount);
-    };
-    match text.parse::<usize>() {
-        Ok(count) => Ok(count),
-        Err(_) => Err(LineFault::NotCount),
-    }
-}
 
 /// `unit` over and over, `count` times.
 fn repeated(heap: Global, unit: &[u8], count: usize) -> Result<Vec<u8>, LineFault> {
@@ -49,16 +29,31 @@ fn repeated(heap: Global, unit: &[u8], count: usize) -> Result<Vec<u8>, LineFaul
     Ok(out)
 }
 
+/// The bytes of pairs of hex digits. Unlike in a block's line, no space may stand between them.
+fn packed_bytes(heap: Global, digits: &[u8]) -> Result<Vec<u8>, LineFault> {
+    let mut out = Vec::new(heap);
+    for pair in digits.chunks_exact(2) {
+        out.push(hex::byte(pair[0], pair[1]).ok_or(LineFault::NotHex)?)?;
+    }
+    if digits.len() % 2 != 0 {
+        return Err(LineFault::OddHex);
+    }
+    Ok(out)
+}
+
 /// The bytes that `HEX` or `HEX*COUNT` writes.
 fn raw_bytes(heap: Global, text: &[u8]) -> Result<Vec<u8>, LineFault> {
     let (digits, count) = cut(text, b'*');
     let unit = match digits {
         b"" => return Err(LineFault::NoBytes),
         b"-" => Vec::new(heap),
-        _ => hex::bytes(heap, digits)?,
+        _ => packed_bytes(heap, digits)?,
     };
     match count {
-        Some(count) => repeated(heap, unit.as_slice(), count_of(count)?),
+        Some(count) => {
+            let count = number_of(count, LineFault::NotCount)?;
+            repeated(heap, unit.as_slice(), count)
+        }
         None => Ok(unit),
     }
 }
@@ -74,14 +69,14 @@ impl<'a> Attribute<'a> {
         match Notation::named(name) {
             Some(Notation::Typed(kind)) => Ok(Attribute {
                 key,
-                kind: kind.number(),
+                kind: u8::from(kind),
                 bytes: value_bytes(heap, kind, value)?,
             }),
             Some(Notation::Raw) => {
                 let (number, text) = word(value);
                 Ok(Attribute {
                     key,
-                    kind: kind_number(number)?,
+                    kind: number_of(number, LineFault::NotKindNumber)?,
                     bytes: raw_bytes(heap, text)?,
                 })
             }

@@ -3,19 +3,14 @@
 #![tactic(auto)]
 
 mod attribute;
-mod cut;
-mod element;
-mod fault;
-mod hex;
-mod notation;
-mod quoted;
+mod named;
 mod report;
-mod tally;
 
 use crate::attribute::Attribute;
-use crate::cut::{Line, Lines};
-use crate::report::{NotRead, Report};
-use crate::tally::Tally;
+use crate::report::Report;
+use notation::cut::{Line, Lines};
+use notation::report::NotRead;
+use notation::tally::{Summary, Tally};
 use std::io;
 use std::io::Read;
 use values::check::check;
@@ -23,14 +18,14 @@ use values::check::check;
 /// Prints the block of one attribute, and counts it.
 fn print_attribute(
     rt: &HostRuntime,
-    number: u64,
+    line: u64,
     attribute: &Attribute<'_>,
     tally: &mut Tally,
 ) -> io::Result<()> {
     let outcome = check(attribute.kind, attribute.bytes.as_slice());
     tally.count(outcome.is_ok());
     let report = Report {
-        number,
+        line,
         key: attribute.key,
         kind: attribute.kind,
         outcome,
@@ -40,22 +35,22 @@ fn print_attribute(
 
 /// Prints what a line says, nothing for an empty line or a comment.
 fn print_line(rt: &HostRuntime, line: Line<'_>, tally: &mut Tally) -> io::Result<()> {
-    let number = line.number;
     let text = line.text.trim_ascii_start();
     if text.is_empty() || text.starts_with(b"#") {
         return Ok(());
     }
+    let line = line.number;
     match Attribute::parse(rt.alloc(), text) {
-        Ok(attribute) => print_attribute(rt, number, &attribute, tally),
+        Ok(attribute) => print_attribute(rt, line, &attribute, tally),
         Err(fault) => {
             tally.count_not_read();
-            println!(rt; "{}", NotRead { number, fault })
+            println!(rt; "{}", NotRead { line, fault })
         }
     }
 }
 
 fn print_all(rt: &HostRuntime, input: &[u8]) -> io::Result<Tally> {
-    let mut tally = Tally::new();
+    let mut tally = Tally::default();
     for line in Lines::new(input) {
         print_line(rt, line, &mut tally)?;
     }
@@ -66,5 +61,6 @@ fn main(rt: HostRuntime) -> io::Result<()> {
     let mut input = Vec::new(rt.alloc());
     rt.stdin().read_to_end(&mut input)?;
     let tally = print_all(&rt, input.as_slice())?;
-    println!(rt; "{tally}")
+    let taken = "attributes shown";
+    println!(rt; "{}", Summary { taken, tally })
 }

@@ -1,5 +1,5 @@
 -- An earlier name in the memory to which a later one was read.
-use Rattle.std.proofs.Common.{◌≡◌, ℕ, ◌≤◌, Bool, true, cond, List, length, Some, None, Option, sym, refl, ap, ◌∙◌, arith}
+use Rattle.std.proofs.Common.{◌≡◌, ℕ, ◌≤◌, Bool, true, false, cond, List, length, Some, None, Option, sym, refl, ap, ◌∙◌, arith}
 use Rattle.std.specs.Option.{option_map}
 use Rattle.lent_bytes.specs.Memory.{clip, portion, padded, Placed}
 use Rattle.lent_bytes.proofs.Clips.{clip-all}
@@ -8,7 +8,7 @@ use Rattle.readers.specs.Tables.{entry_for}
 use Rattle.readers.specs.Texts.{Filled}
 use Rattle.readers.proofs.Entries.{or_some, entry_within}
 use Rattle.readers.proofs.Fronts.{portion-padded}
-use Rattle.layer.specs.Later.{later_names, earlier_text, earlier_known}
+use Rattle.layer.specs.Later.{later_names, earlier_text, earlier_known, earlier_under, is_database_key}
 
 pub placed : (t u x : List ℕ) (w r : ℕ) (out : List ℕ) → w ≡ 4096 → u ≡ t → Some x ≡ entry_for u later_names → Placed w x r out → Filled 4096 (earlier_text t) r out
 placed t u x w r out ew eu d p =
@@ -30,15 +30,24 @@ read-filled (Some t) n out e f =
     let p : portion out 0 n ≡ t = read-front (Some t) n out e f in
     record { len = i ∙ ap length (sym p); text = f ∙ ap (padded 4096) (sym p) }
 
--- what the two calls answer, of a key that names a database system
-pub of_span : (b : Bool) (o : Option Known) (n r : ℕ) (out after : List ℕ) → true ≡ b → Some n ≡ size_of (text_of o) → out ≡ padded 4096 (bytes_of (text_of o)) → Filled 4096 (earlier_text (portion out 0 n)) r after → (Some r ≡ size_of (text_of (cond b (option_map earlier_known o) o))) × (after ≡ padded 4096 (bytes_of (text_of (cond b (option_map earlier_known o) o))))
-of_span b None n r out after h e f p = let z : ◌≡◌ {A = ℕ} 0 1 = cc in absurd (omega arith)
-of_span b (Some k) n r out after h e f p =
-    let i : portion out 0 n ≡ k.text = read-front (Some k.text) n out e f in
-    rw (← h) (ap Some (p.len ∙ ap (λ t. length (earlier_text t)) i), p.text ∙ ap (λ t. padded 4096 (earlier_text t)) i)
-
-pub of_resource : (b : Bool) (o : Option (List ℕ)) (n r : ℕ) (out after : List ℕ) → true ≡ b → Some n ≡ size_of o → out ≡ padded 4096 (bytes_of o) → Filled 4096 (earlier_text (portion out 0 n)) r after → (Some r ≡ size_of (cond b (option_map earlier_text o) o)) × (after ≡ padded 4096 (bytes_of (cond b (option_map earlier_text o) o)))
-of_resource b None n r out after h e f p = let z : ◌≡◌ {A = ℕ} 0 1 = cc in absurd (omega arith)
-of_resource b (Some t) n r out after h e f p =
+-- what is answered of a text, by whether its key names a database system
+of_text : (b : Bool) (o : Option (List ℕ)) (n r : ℕ) (out after : List ℕ) → Some n ≡ size_of o → out ≡ padded 4096 (bytes_of o) → Filled 4096 (cond b (earlier_text (portion out 0 n)) (portion out 0 n)) r after → (Some r ≡ size_of (cond b (option_map earlier_text o) o)) × (after ≡ padded 4096 (bytes_of (cond b (option_map earlier_text o) o)))
+of_text b None n r out after e f p = let z : ◌≡◌ {A = ℕ} 0 1 = cc in absurd (omega arith)
+of_text true (Some t) n r out after e f p =
     let i : portion out 0 n ≡ t = read-front (Some t) n out e f in
-    rw (← h) (ap Some (p.len ∙ ap (λ t. length (earlier_text t)) i), p.text ∙ ap (λ t. padded 4096 (earlier_text t)) i)
+    (ap Some (p.len ∙ ap (λ t. length (earlier_text t)) i), p.text ∙ ap (λ t. padded 4096 (earlier_text t)) i)
+of_text false (Some t) n r out after e f p =
+    let i : portion out 0 n ≡ t = read-front (Some t) n out e f in
+    (ap Some (p.len ∙ ap length i), p.text ∙ ap (padded 4096) i)
+
+-- of the resource, and of the span, whose texts may have numbers
+pub of_resource : (k : ℕ) (o : Option (List ℕ)) (n r : ℕ) (out after : List ℕ) → Some n ≡ size_of o → out ≡ padded 4096 (bytes_of o) → Filled 4096 (earlier_under k (portion out 0 n)) r after → (Some r ≡ size_of (cond (is_database_key k) (option_map earlier_text o) o)) × (after ≡ padded 4096 (bytes_of (cond (is_database_key k) (option_map earlier_text o) o)))
+of_resource k o n r out after e f p = of_text (is_database_key k) o n r out after e f p
+
+text_under : (b : Bool) (o : Option Known) → cond b (option_map earlier_text (text_of o)) (text_of o) ≡ text_of (cond b (option_map earlier_known o) o)
+text_under true None = refl
+text_under true (Some k) = refl
+text_under false o = refl
+
+pub of_span : (k : ℕ) (o : Option Known) (n r : ℕ) (out after : List ℕ) → Some n ≡ size_of (text_of o) → out ≡ padded 4096 (bytes_of (text_of o)) → Filled 4096 (earlier_under k (portion out 0 n)) r after → (Some r ≡ size_of (text_of (cond (is_database_key k) (option_map earlier_known o) o))) × (after ≡ padded 4096 (bytes_of (text_of (cond (is_database_key k) (option_map earlier_known o) o))))
+of_span k o n r out after e f p = rw (← text_under (is_database_key k) o) (of_text (is_database_key k) (text_of o) n r out after e f p)

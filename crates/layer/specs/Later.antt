@@ -35,6 +35,10 @@ earlier_known k = record { text = earlier_text k.text; number = k.number }
 abbrev pub is_database_key : ℕ → Bool
 is_database_key k = k == db_system || k == db_system_name
 
+-- what a text under a key is read as
+abbrev pub earlier_under : ℕ → List ℕ → List ℕ
+earlier_under k t = cond (is_database_key k) (earlier_text t) t
+
 -- the texts under the two keys of database systems go by the table, and all else is as below
 abbrev pub later_edition : Reading → Reading
 later_edition r =

@@ -2,7 +2,7 @@
 ghost use Rattle.std.specs.Prelude.{◌≡◌};
 ghost use Rattle.lent_bytes.specs.Memory.{portion};
 ghost use Rattle.readers.specs.Texts.{Filled};
-ghost use Rattle.layer.specs.Later.{earlier_text, is_database_key, later_edition};
+ghost use Rattle.layer.specs.Later.{earlier_under, is_database_key, later_edition};
 
 use blocks::span_kind::SpanKind;
 use lent_bytes::memory::part;
@@ -94,14 +94,18 @@ impl<S> LaterEdition<S> {
 fn is_database_key(key: AttributeKey) -> bool
     ensures { result ≡ is_database_key key.idx }
 {
-    key.place() == DB_SYSTEM.place() || key.place() == DB_SYSTEM_NAME.place()
+    key == DB_SYSTEM || key == DB_SYSTEM_NAME
 }
 
-/// The earlier name in place of a later one that was read to the front of `out`.
-fn put_earlier(out: &mut [u8; 4096], n: usize) -> usize
+/// What was read under a key to the front of `out`: where it names a database system, the earlier name in place of a
+/// later one. Memory and length come as the reader below answered them.
+fn put_earlier(key: AttributeKey, out: &mut [u8; 4096], n: usize) -> usize
     requires { Filled 4096 (portion out.old 0 n) n out.old }
-    ensures { Filled 4096 (earlier_text (portion out.old 0 n)) result out.new }
+    ensures { Filled 4096 (earlier_under key.idx (portion out.old 0 n)) result out.new }
 {
+    if !is_database_key(key) {
+        return n;
+    }
     match find(&LATER_NAMES, part(out, 0, n)) {
         Some(name) => write_text(out, name),
         None => n,
@@ -125,11 +129,7 @@ impl<S: OtelSpan> OtelSpan for LaterEdition<S> {
 
     fn get_attr_str_opt(&self, key: AttributeKey, out: &mut [u8; 4096]) -> Option<usize> {
         let n = self.below.get_attr_str_opt(key, out)?;
-        if is_database_key(key) {
-            Some(put_earlier(out, n))
-        } else {
-            Some(n)
-        }
+        Some(put_earlier(key, out, n))
     }
 
     fn get_attr_num(&self, key: AttributeKey) -> Option<i64> {
@@ -138,10 +138,6 @@ impl<S: OtelSpan> OtelSpan for LaterEdition<S> {
 
     fn get_res_attribute_opt(&self, key: AttributeKey, out: &mut [u8; 4096]) -> Option<usize> {
         let n = self.below.get_res_attribute_opt(key, out)?;
-        if is_database_key(key) {
-            Some(put_earlier(out, n))
-        } else {
-            Some(n)
-        }
+        Some(put_earlier(key, out, n))
     }
 }

@@ -77,12 +77,6 @@ pushed-length a n s r b p =
     let whole : length (take r b) + length (drop r b) ≡ length b = sym (length-append (take r b) (drop r b)) ∙ ap length (take-append-drop r b) in
     omega arith
 
-pub pushed-within : (a : List ℕ) (n : ℕ) (s : List ℕ) (r : ℕ) (b : List ℕ) → Pushed a n s r b → r ≤ length b
-pushed-within a n s r b p =
-    let l = pushed-length a n s r b p in
-    let least : r ≡ min (length a) (length (take n a ++ s)) = p.len ∙ length-clip (length a) (take n a ++ s) in
-    omega arith
-
 -- a push behind a push is one push
 pub pushed_more : (a : List ℕ) (n : ℕ) (s : List ℕ) (r : ℕ) (b t : List ℕ) (q : ℕ) (c : List ℕ) → Pushed a n s r b → Pushed b r t q c → Pushed a n (s ++ t) q c
 pushed_more a n s r b t q c x y =

@@ -101,16 +101,5 @@ le8-bytes8 v h = horner v _ _ _ _ _ _ _ _ _ _ _ _ _ _ _ (sym (div-add-mod' v 256
 pub int8-ints8 : (v : ℤ) → SFits w64 v → int8 (ints8 v) ≡ v
 int8-ints8 v h = ap (to_z w64) (le8-bytes8 (of_z w64 v) (of_z_fits w64 v h).fits) ∙ to_z-of_z w64 v h
 
--- what is read from a part, a number or any other
-module _ (m : List ℕ) (at : ℕ) (s : List ℕ) {X : Type 0} (F : List ℕ → X) where
-  pub read_before : (a n : ℕ) → a + n ≤ at → F (portion (written m at s) a n) ≡ F (portion m a n)
-  read_before a n h = ap F (portion_before m at s a n h)
-
-  pub read-after : (a n : ℕ) → at + length s ≤ a → F (portion (written m at s) a n) ≡ F (portion m a n)
-  read-after a n h = ap F (portion-after m at s a n h)
-
-  pub read-written : (n : ℕ) → n ≡ length s → at + n ≤ length m → F (portion (written m at s) at n) ≡ F s
-  read-written n e h = ap F (portion-written m at s n e h)
-
 -- for `search (rules, frames)`
 pub ruleset frames = (length-written, portion_before, portion-after, portion-within, portion-written, le2-bytes2, le4-bytes4, le8-bytes8)

@@ -1,23 +1,15 @@
--- A loop that looks a key up in a list of texts.
-use Rattle.std.proofs.Common.{◌≡◌, ℕ, zero, suc, ◌+◌, ◌<◌, ◌≤◌, true, false, not, List, [], ◌∷◌, length, get_or, drop, Some, None, Option, sym, ap, ◌∙◌, inl, inr, arith}
+-- Looking a key up in a list of texts.
+use Rattle.std.proofs.Common.{◌≡◌, ℕ, zero, suc, ◌+◌, ◌<◌, true, false, not, cond, map, List, [], ◌∷◌, length, get_or, Some, None, Option, Bor, sym, refl, ap, ◌∙◌, inl, inr, arith}
+use Rattle.std.specs.List.{position_from}
 use Rattle.std.specs.Str.{bytes_eq}
 use Rattle.std.proofs.lemmas.Slice.Eq.{bytes_eq-Decides}
-use Rattle.std.proofs.lemmas.List.{drop_more, drop_all}
 use Rattle.std.proofs.lemmas.Bool.{cond-true, cond-false, cond_both, and_parts, not-true, both_ways, cases_Bool}
 use Rattle.lent_bytes.specs.Lookup.{index_from, lacks, distinct, Found, LookedUpExactly}
 
-module _ (k : List ℕ) (ts : List (List ℕ)) (i : ℕ) where
-  pub index_hit : i < length ts → bytes_eq (get_or ts i []) k ≡ true → index_from i k (drop i ts) ≡ Some i
-  index_hit h e = ap (index_from i k) (drop_more ts i [] h) ∙ cond-true _ _ _ e
-
-  pub index_miss : i < length ts → bytes_eq (get_or ts i []) k ≡ false → index_from i k (drop i ts) ≡ index_from (i + 1) k (drop (i + 1) ts)
-  index_miss h e = ap (index_from i k) (drop_more ts i [] h) ∙ cond-false _ _ _ e
-
-  pub index_none : length ts ≤ i → index_from i k (drop i ts) ≡ None
-  index_none h = ap (index_from i k) (drop_all i ts h)
-
--- for `search (rules, looks)`
-pub ruleset looks = (index_hit, index_miss, index_none)
+-- the library's search, over texts that are borrowed
+pub looked_from : (i : ℕ) (k : List ℕ) (ts : List (Bor (List ℕ))) → position_from (λ t. bytes_eq t.now k) i ts ≡ index_from i k (map (λ x. x.now) ts)
+looked_from i k [] = refl
+looked_from i k (t ∷ ts) = ap (cond (bytes_eq t.now k) (Some i)) (looked_from (i + 1) k ts)
 
 -- texts that are the same, and texts that are not
 pub same_from : (a b : List ℕ) → a ≡ b → bytes_eq a b ≡ true

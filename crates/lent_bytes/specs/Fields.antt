@@ -32,11 +32,6 @@ be8 b =
 abbrev pub int8 : List ℕ → ℤ
 int8 b = to_z w64 (le8 b)
 
--- the first eight bytes
-abbrev pub eight_of : List ℕ → List ℕ
-eight_of b =
-    slice_index b 0 ∷ slice_index b 1 ∷ slice_index b 2 ∷ slice_index b 3 ∷ slice_index b 4 ∷ slice_index b 5 ∷ slice_index b 6 ∷ slice_index b 7 ∷ []
-
 -- the number that stands in m at `at`
 abbrev pub u16_in : List ℕ → ℕ → ℕ
 u16_in m at = le2 (portion m at 2)

@@ -2,32 +2,9 @@
 ghost use Rattle.std.specs.Prelude.{◌≡◌, ◌<◌, decimal};
 ghost use Rattle.std.specs.Fmt.{signed_decimal};
 ghost use Rattle.std.specs.List.{flat_map};
-ghost use Rattle.lent_bytes.specs.Memory.{Pushed};
 ghost use Rattle.lent_bytes.specs.Digits.{hex_digit, hex_pair};
 
-use crate::texts::push;
-
-/// The shortest decimal of `x`, behind the text so far.
-pub fn push_decimal(out: &mut [u8], n: usize, x: u64) -> usize
-    ensures { Pushed out.old n (decimal x) result out.new }
-{
-    if x < 10 {
-        return push(out, n, &[48 + x as u8]);
-    }
-    let n = push_decimal(out, n, x / 10);
-    push(out, n, &[48 + (x % 10) as u8])
-}
-
-/// The shortest decimal of `z` with its sign, behind the text so far.
-pub fn push_signed(out: &mut [u8], n: usize, z: i64) -> usize
-    ensures { Pushed out.old n (signed_decimal z) result out.new }
-{
-    if z >= 0 {
-        return push_decimal(out, n, z.unsigned_abs());
-    }
-    let n = push(out, n, b"-");
-    push_decimal(out, n, z.unsigned_abs())
-}
+use crate::texts::TextWriter;
 
 fn hex_digit(d: u8) -> u8
     requires { d < 16 }
@@ -36,13 +13,37 @@ fn hex_digit(d: u8) -> u8
     if d < 10 { 48 + d } else { 87 + d }
 }
 
-/// Two hex digits for each byte, behind the text so far.
-pub fn push_hex(out: &mut [u8], n: usize, bytes: &[u8]) -> usize
-    ensures { Pushed out.old n (flat_map hex_pair bytes.now) result out.new }
-{
-    let mut at = push(out, n, b"");
-    for b in bytes {
-        at = push(out, at, &[hex_digit(*b / 16), hex_digit(*b % 16)]);
+impl TextWriter<'_> {
+    ghost use Rattle.lent_bytes.specs.Writing.{Wrote};
+
+    /// Writes the shortest decimal of `x`.
+    pub fn push_decimal(&mut self, x: u64)
+        ensures { Wrote self.old self.new (decimal x) }
+    {
+        if x < 10 {
+            return self.push(&[48 + x as u8]);
+        }
+        self.push_decimal(x / 10);
+        self.push(&[48 + (x % 10) as u8]);
     }
-    at
+
+    /// Writes the shortest decimal of `z` with its sign.
+    pub fn push_signed(&mut self, z: i64)
+        ensures { Wrote self.old self.new (signed_decimal z) }
+    {
+        if z >= 0 {
+            return self.push_decimal(z.unsigned_abs());
+        }
+        self.push(b"-");
+        self.push_decimal(z.unsigned_abs());
+    }
+
+    /// Writes two hex digits for each byte.
+    pub fn push_hex(&mut self, bytes: &[u8])
+        ensures { Wrote self.old self.new (flat_map hex_pair bytes.now) }
+    {
+        for b in bytes {
+            self.push(&[hex_digit(*b / 16), hex_digit(*b % 16)]);
+        }
+    }
 }

@@ -1,92 +1,97 @@
 //! Numbers in memory: little endian, but for ids.
-ghost use Rattle.std.specs.Prelude.{◌≡◌};
-ghost use Rattle.lent_bytes.specs.Memory.{portion, written};
-ghost use Rattle.lent_bytes.specs.Fields.{eight_of, u16_in, u32_in, u64_in, i64_in, id_in, bytes2, bytes4, bytes8, ints8};
+ghost use Rattle.std.specs.Prelude.{◌≡◌, ℕ, List};
+ghost use Rattle.lent_bytes.specs.Memory.{written};
+ghost use Rattle.lent_bytes.specs.Fields.{u16_in, u32_in, u64_in, i64_in, id_in, bytes2, bytes4, bytes8, ints8};
 
 use crate::memory::{byte, part, write};
+use std::array;
 
-/// The eight bytes of `m` from `at` on, 0 past its end.
-fn eight(m: &[u8], at: usize) -> [u8; 8]
-    ensures { result ≡ eight_of (portion m.now at 8) }
-{
-    let p = part(m, at, 8);
-    [
-        byte(p, 0),
-        byte(p, 1),
-        byte(p, 2),
-        byte(p, 3),
-        byte(p, 4),
-        byte(p, 5),
-        byte(p, 6),
-        byte(p, 7),
-    ]
+/// A number that stands in memory, lowest byte first. Each type has its own array of bytes, and so an `impl` of its own
+/// two lines a call.
+pub trait Number {
+    // The number at a place of memory.
+    ghost in_memory: { List ℕ → ℕ → Self };
+
+    // The bytes of a number.
+    ghost to_bytes: { Self → List ℕ };
+
+    /// The number at `at`. A byte past the end is 0.
+    fn read(m: &[u8], at: usize) -> Self
+        ensures { result ≡ in_memory m.now at };
+
+    /// Writes the number at `at`, as far as it fits.
+    fn put(self, m: &mut [u8], at: usize)
+        ensures { m.new ≡ written m.old at (to_bytes self) };
 }
 
-/// The number of two bytes at `at`.
-pub fn u16_at(m: &[u8], at: usize) -> u16
-    ensures { result ≡ u16_in m.now at }
-{
-    let p = part(m, at, 2);
-    u16::from_le_bytes([byte(p, 0), byte(p, 1)])
+impl Number for u16 {
+    ghost in_memory = { u16_in };
+
+    ghost to_bytes = { bytes2 };
+
+    fn read(m: &[u8], at: usize) -> u16 {
+        let p = part(m, at, 2);
+        u16::from_le_bytes(array::from_fn(|i| byte(p, i)))
+    }
+
+    fn put(self, m: &mut [u8], at: usize) {
+        let two = self.to_le_bytes();
+        write(m, at, &two);
+    }
 }
 
-/// The number of four bytes at `at`.
-pub fn u32_at(m: &[u8], at: usize) -> u32
-    ensures { result ≡ u32_in m.now at }
-{
-    let p = part(m, at, 4);
-    u32::from_le_bytes([byte(p, 0), byte(p, 1), byte(p, 2), byte(p, 3)])
+impl Number for u32 {
+    ghost in_memory = { u32_in };
+
+    ghost to_bytes = { bytes4 };
+
+    fn read(m: &[u8], at: usize) -> u32 {
+        let p = part(m, at, 4);
+        u32::from_le_bytes(array::from_fn(|i| byte(p, i)))
+    }
+
+    fn put(self, m: &mut [u8], at: usize) {
+        let four = self.to_le_bytes();
+        write(m, at, &four);
+    }
 }
 
-/// The number of eight bytes at `at`.
-pub fn u64_at(m: &[u8], at: usize) -> u64
-    ensures { result ≡ u64_in m.now at }
-{
-    u64::from_le_bytes(eight(m, at))
+impl Number for u64 {
+    ghost in_memory = { u64_in };
+
+    ghost to_bytes = { bytes8 };
+
+    fn read(m: &[u8], at: usize) -> u64 {
+        let p = part(m, at, 8);
+        u64::from_le_bytes(array::from_fn(|i| byte(p, i)))
+    }
+
+    fn put(self, m: &mut [u8], at: usize) {
+        let digits = self.to_le_bytes();
+        write(m, at, &digits);
+    }
 }
 
-/// The signed number of eight bytes at `at`.
-pub fn i64_at(m: &[u8], at: usize) -> i64
-    ensures { result ≡ i64_in m.now at }
-{
-    i64::from_le_bytes(eight(m, at))
+impl Number for i64 {
+    ghost in_memory = { i64_in };
+
+    ghost to_bytes = { ints8 };
+
+    fn read(m: &[u8], at: usize) -> i64 {
+        let p = part(m, at, 8);
+        i64::from_le_bytes(array::from_fn(|i| byte(p, i)))
+    }
+
+    fn put(self, m: &mut [u8], at: usize) {
+        let signed = self.to_le_bytes();
+        write(m, at, &signed);
+    }
 }
 
 /// The id of eight bytes at `at`, highest byte first.
 pub fn id_at(m: &[u8], at: usize) -> u64
     ensures { result ≡ id_in m.now at }
 {
-    u64::from_be_bytes(eight(m, at))
-}
-
-/// Writes `v` in two bytes at `at`.
-pub fn put_u16(m: &mut [u8], at: usize, v: u16)
-    ensures { m.new ≡ written m.old at (bytes2 v) }
-{
-    let two = v.to_le_bytes();
-    write(m, at, &two);
-}
-
-/// Writes `v` in four bytes at `at`.
-pub fn put_u32(m: &mut [u8], at: usize, v: u32)
-    ensures { m.new ≡ written m.old at (bytes4 v) }
-{
-    let four = v.to_le_bytes();
-    write(m, at, &four);
-}
-
-/// Writes `v` in eight bytes at `at`.
-pub fn put_u64(m: &mut [u8], at: usize, v: u64)
-    ensures { m.new ≡ written m.old at (bytes8 v) }
-{
-    let digits = v.to_le_bytes();
-    write(m, at, &digits);
-}
-
-/// Writes the signed `v` in eight bytes at `at`.
-pub fn put_i64(m: &mut [u8], at: usize, v: i64)
-    ensures { m.new ≡ written m.old at (ints8 v) }
-{
-    let signed = v.to_le_bytes();
-    write(m, at, &signed);
+    let p = part(m, at, 8);
+    u64::from_be_bytes(array::from_fn(|i| byte(p, i)))
 }

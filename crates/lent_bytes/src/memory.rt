@@ -15,14 +15,14 @@ pub fn part(m: &[u8], at: usize, n: usize) -> &[u8]
 pub fn after(m: &[u8], n: usize) -> &[u8]
     ensures { result.now ≡ rest m.now n }
 {
-    if n < m.len() { &m[n..] } else { &m[0..0] }
+    &m[n.min(m.len())..]
 }
 
 /// The byte of `m` at `i`, 0 past its end.
 pub fn byte(m: &[u8], i: usize) -> u8
     ensures { result ≡ slice_index m.now i }
 {
-    if i < m.len() { m[i] } else { 0 }
+    m.get(i).copied().unwrap_or(0)
 }
 
 /// Writes `s` into `m` from `at` on, as far as it fits.

@@ -22,7 +22,8 @@ impl Default for AttributeIndices {
     }
 }
 
-// Writes `place` at `at`; past the end there is nothing to write.
+// Writes `place` at `at`; past the end there is nothing to write. With `get_mut` on the array the proof did not close:
+// what an element of an array that is a field becomes is not followed.
 fn put(places: &mut [Option<usize>], at: usize, place: usize)
     ensures { places.new ≡ slice_set places.old at (Some place) }
 {
@@ -43,14 +44,11 @@ impl AttributeIndices {
     pub fn get(&self, key: AttributeKey) -> Option<usize>
         ensures { result ≡ slice_index_or self.now.places key.idx None }
     {
-        match self.places.get(key.place()) {
-            Some(place) => *place,
-            None => None,
-        }
+        self.places.get(key.place()).copied().flatten()
     }
 
-    // Notes that these bytes stand at `place`, if they are a known key's.
-    fn note(&mut self, key: &[u8], place: usize)
+    /// Notes that these bytes stand at `place`, if they are a known key's.
+    pub fn note(&mut self, key: &[u8], place: usize)
         ensures { self.new.places ≡ noted (option_map key_at (known key.now)) place self.old.places }
     {
         if let Some(found) = get_attribute_idx(key) {

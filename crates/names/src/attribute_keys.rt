@@ -58,7 +58,8 @@ pub const KEYS: [&[u8]; NUMBER_OF_ATTRIBUTES] = [
     b"_dd.measured",
 ];
 
-/// One of the known keys.
+/// One of the known keys, by its place among them. The places and the constants below are one list each, as in
+/// the source: an enum would say each of the 43 names once more and be no plainer.
 #[derive(Clone, Copy, PartialEq, Eq, Debug)]
 pub struct AttributeKey {
     idx: usize,
@@ -224,10 +225,7 @@ impl AttributeKey {
 pub fn get_attribute_idx(key: &[u8]) -> Option<AttributeKey>
     ensures { result ≡ option_map key_at (known key.now) }
 {
-    match tables::index_of(&KEYS, key) {
-        Some(idx) => Some(AttributeKey { idx }),
-        None => None,
-    }
+    tables::index_of(&KEYS, key).map(|idx| AttributeKey { idx })
 }
 
 /// A key is known just where the table has it, and then by its own place.

@@ -1,5 +1,3 @@
-mod Encodings
-mod Pieces
+mod Names
 mod Numerals
-mod Quotes
-mod Readings
+mod Remaining

@@ -1,6 +1,6 @@
 -- A loop that reads hex digits.
 use Rattle.std.proofs.Common.{◌≡◌, ℕ, ◌+◌, ◌*◌, ◌^◌, ◌<◌, ◌≤◌, List, [], ◌∷◌, length, get_or, drop, Some, None, refl, ap, ◌∙◌, arith, pow_mono, pow-add}
-use Rattle.std.proofs.lemmas.List.{drop_more, drop_all}
+use Rattle.std.proofs.lemmas.List.{drop_more}
 use Rattle.std.proofs.lemmas.Bool.{cond-true, eq-eqb}
 use Rattle.notation.specs.Hex.{digit_value, more, number_from, pattern_of}
 
@@ -24,9 +24,6 @@ module _ (n i : ℕ) (bs : List ℕ) where
   pub number-none : i < length bs → digit_value (get_or bs i 0) ≡ None → number_from (Some n) (drop i bs) ≡ None
   number-none h e =
       ap (number_from (Some n)) (drop_more bs i 0 h) ∙ (ap (λ o. number_from (more (Some n) o) (drop (i + 1) bs)) e ∙ none_stays (drop (i + 1) bs))
-
-  pub number_end : length bs ≤ i → number_from (Some n) (drop i bs) ≡ Some n
-  number_end h = ap (number_from (Some n)) (drop_all i bs h)
 
 pub pattern_number : (bs : List ℕ) → length bs ≡ 16 → pattern_of bs ≡ number_from (Some 0) bs
 pattern_number bs h = cond-true _ _ _ (eq-eqb (length bs) 16 h)

@@ -1,16 +1,9 @@
 -- The words that name kinds.
-use Rattle.std.specs.Prelude.{◌≡◌, ℕ, cond, List, [], ◌∷◌, Some, None, codes, Option, nat_lt, slice_index_or}
+use Rattle.std.specs.Prelude.{◌≡◌, ℕ, cond, List, Some, None, Option, nat_lt}
 use Rattle.lent_bytes.specs.Lookup.{index_from}
-use Rattle.values.specs.Kinds.{kind_of, kind_number}
+use Rattle.values.specs.KindNames.{kind_names, name_of_kind}
+use Rattle.values.specs.Kinds.{kind_of}
 use Rattle.values.specs.declared.kinds.ValueKind.{ValueKind}
-
--- each at its kind's number
-abbrev pub kind_names : List (List ℕ)
-kind_names =
-    codes "bool" ∷ codes "int" ∷ codes "double" ∷ codes "string" ∷ codes "bools" ∷ codes "ints" ∷ codes "doubles" ∷ codes "strings" ∷ []
-
-abbrev pub name_of_kind : ValueKind → List ℕ
-name_of_kind k = slice_index_or kind_names (kind_number k) []
 
 -- the kind whose number is the place
 abbrev pub kind_at : Option ℕ → Option ValueKind

@@ -3,30 +3,14 @@ ghost use Rattle.std.specs.Prelude.{◌≡◌, ℕ, ◌<◌, ◌≤◌, length, 
 ghost use Rattle.notation.specs.Cuts.{Lacks, Joins};
 ghost use Rattle.std.specs.Iterator.{at_most};
 
-/// Where `b` stands first in `text`, or the text's length.
-fn find(text: &[u8], b: u8) -> usize
-    ensures within { result ≤ length text.now }
-    ensures before { (k : ℕ) → k < result → slice_index text.now k ≢ b }
-    ensures found { result < length text.now → slice_index text.now result ≡ b }
-{
-    for (i, x) in text.iter().enumerate() {
-        if *x == b {
-            return i;
-        }
-    }
-    text.len()
-}
-
 /// What stands before the first `b`, and what follows it, if there is one.
 pub fn cut(text: &[u8], b: u8) -> (&[u8], Option<&[u8]>)
     ensures lacks { Lacks b result.0.now }
     ensures joins { Joins b text.now result.0.now result.1 }
 {
-    let n = find(text, b);
-    if n < text.len() {
-        (&text[0..n], Some(&text[n + 1..]))
-    } else {
-        (text, None)
+    match text.iter().position(|x| *x == b) {
+        Some(n) => (&text[..n], Some(&text[n + 1..])),
+        None => (text, None),
     }
 }
 

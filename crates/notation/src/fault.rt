@@ -43,9 +43,9 @@ impl<T: Drop> From<AllocFailed<T>> for LineFault {
     }
 }
 
-impl LineFault {
-    fn reason(self) -> &'static str {
-        match self {
+impl fmt::Display for LineFault {
+    fn fmt<W: fmt::Write>(&self, f: &mut fmt::Formatter<W>) -> fmt::Result {
+        f.pad(match self {
             LineFault::NoKind => "no kind after the key",
             LineFault::UnknownKind => "an unknown kind",
             LineFault::NotBool => "not a bool: true or false",
@@ -64,12 +64,6 @@ impl LineFault {
             LineFault::NotCount => "not a count",
             LineFault::TooManyBytes => "over 1,048,576 bytes",
             LineFault::NoMemory => "no memory left",
-        }
-    }
-}
-
-impl fmt::Display for LineFault {
-    fn fmt<W: fmt::Write>(&self, f: &mut fmt::Formatter<W>) -> fmt::Result {
-        f.write_str(self.reason())
+        })
     }
 }

@@ -1,15 +1,14 @@
 //! Hex digits: read in either case, printed in lower case.
-ghost use Rattle.std.specs.Prelude.{◌≡◌, ◌<◌, [], IfSome, Ok, Err, MatchResult};
-ghost use Rattle.notation.specs.declared.hex.Place.TheVariants.{First};
+ghost use Rattle.std.specs.Prelude.{◌≡◌, ◌<◌, [], IfSome, None, Ok, Err, MatchResult};
 ghost use Rattle.notation.specs.Faults.{OrMemory};
 ghost use Rattle.notation.specs.Hex.{digit_value, more, pattern_of};
-ghost use Rattle.notation.specs.Reading.{digit_move, move_of, bytes_from};
+ghost use Rattle.notation.specs.Reading.{bytes_from};
 
 use crate::fault::LineFault;
 use std::alloc::Global;
 use std::fmt;
 
-/// The value of a hex digit.
+/// The value of a hex digit. `char::to_digit` answers a `u32`, and what follows counts in bytes.
 pub fn digit(b: u8) -> Option<u8>
     ensures value { result ≡ digit_value b }
     ensures bound { IfSome result (λ d. d < 16) }
@@ -43,67 +42,31 @@ pub fn pattern(digits: &[u8]) -> Option<u64>
     Some(number)
 }
 
-/// Where in a byte's digits the next one stands.
-#[derive(Clone, Copy)]
-enum Place {
-    First,
-    /// Behind this digit.
-    Second(u8),
-}
-
-/// What one more character comes to.
-#[derive(Clone, Copy)]
-enum Move {
-    Into(Place),
-    /// It ends this byte.
-    Byte(u8),
-    Wrong(LineFault),
-}
-
-fn digit_move(place: Place, b: u8) -> Move
-    ensures { result ≡ digit_move place b }
-{
-    match place {
-        Place::First => match digit(b) {
-            Some(_) => Move::Into(Place::Second(b)),
-            None => Move::Wrong(LineFault::NotHex),
-        },
-        Place::Second(first) => match byte(first, b) {
-            Some(b) => Move::Byte(b),
-            None => Move::Wrong(LineFault::NotHex),
-        },
-    }
-}
-
-fn step(place: Place, b: u8) -> Move
-    ensures { result ≡ move_of place b }
-{
-    if b == b' ' {
-        Move::Into(place)
-    } else {
-        digit_move(place, b)
-    }
-}
-
 /// The bytes of pairs of hex digits; spaces count for nothing.
 pub fn read_bytes(heap: Global, digits: &[u8]) -> Result<Vec<u8>, LineFault>
-    ensures { MatchResult result (λ v. bytes_from First [] digits.now ≡ Ok v.items) (λ f. OrMemory f (bytes_from First [] digits.now ≡ Err f)) }
+    ensures { MatchResult result (λ v. bytes_from None [] digits.now ≡ Ok v.items) (λ f. OrMemory f (bytes_from None [] digits.now ≡ Err f)) }
 {
     let mut out = Vec::new(heap);
-    let mut place = Place::First;
+    // The first digit of a byte, while its second is to come.
+    let mut first = None;
     for b in digits {
-        match step(place, *b) {
-            Move::Into(next) => place = next,
-            Move::Byte(b) => {
-                out.push(b)?;
-                place = Place::First;
+        if *b == b' ' {
+            continue;
+        }
+        match first {
+            None => {
+                digit(*b).ok_or(LineFault::NotHex)?;
+                first = Some(*b);
             }
-            Move::Wrong(fault) => return Err(fault),
+            Some(high) => {
+                out.push(byte(high, *b).ok_or(LineFault::NotHex)?)?;
+                first = None;
+            }
         }
     }
-    match place {
-        Place::First => Ok(out),
-        Place::Second(_) => Err(LineFault::OddHex),
+    match first {
+        None => Ok(out),
+        Some(_) => Err(LineFault::OddHex),
     }
 }
 

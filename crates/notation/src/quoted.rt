@@ -29,29 +29,27 @@ enum Move {
     Byte(u8),
     /// It is the closing quote.
     Close,
-    Wrong(LineFault),
 }
 
-fn step(place: Place, b: u8) -> Move
+fn step(place: Place, b: u8) -> Result<Move, LineFault>
     ensures { result ≡ move_of place b }
 {
     match place {
         Place::Plain => match b {
-            b'"' => Move::Close,
-            b'\\' => Move::Into(Place::Escape),
-            _ => Move::Byte(b),
+            b'"' => Ok(Move::Close),
+            b'\\' => Ok(Move::Into(Place::Escape)),
+            _ => Ok(Move::Byte(b)),
         },
         Place::Escape => match b {
-            b'\\' | b'"' => Move::Byte(b),
-            b'n' => Move::Byte(b'\n'),
-            b'x' => Move::Into(Place::High),
-            _ => Move::Wrong(LineFault::UnknownEscape),
+            b'\\' | b'"' => Ok(Move::Byte(b)),
+            b'n' => Ok(Move::Byte(b'\n')),
+            b'x' => Ok(Move::Into(Place::High)),
+            _ => Err(LineFault::UnknownEscape),
         },
-        Place::High => Move::Into(Place::Low(b)),
-        Place::Low(high) => match hex::byte(high, b) {
-            Some(b) => Move::Byte(b),
-            None => Move::Wrong(LineFault::BadByteEscape),
-        },
+        Place::High => Ok(Move::Into(Place::Low(b))),
+        Place::Low(high) => hex::byte(high, b)
+            .map(Move::Byte)
+            .ok_or(LineFault::BadByteEscape),
     }
 }
 
@@ -71,7 +69,7 @@ impl<'a> Quoted<'a> {
         let mut bytes = Vec::new(heap);
         let mut place = Place::Plain;
         for (i, b) in text.iter().enumerate() {
-            match step(place, *b) {
+            match step(place, *b)? {
                 Move::Into(next) => place = next,
                 Move::Byte(b) => {
                     bytes.push(b)?;
@@ -81,7 +79,6 @@ impl<'a> Quoted<'a> {
                     let rest = &text[i + 1..];
                     return Ok(Quoted { bytes, rest });
                 }
-                Move::Wrong(fault) => return Err(fault),
             }
         }
         Err(LineFault::NoQuote)
@@ -92,12 +89,7 @@ impl<'a> Quoted<'a> {
         ensures reads { MatchResult result (λ q. quoted_in text.now ≡ Ok (q.bytes.items, q.rest.now)) (λ f. OrMemory f (quoted_in text.now ≡ Err f)) }
         ensures shorter { IfOk result (λ q. length q.rest.now < length text.now) }
     {
-        let Some((first, inside)) = text.split_first() else {
-            return Err(LineFault::NoQuote);
-        };
-        if *first != b'"' {
-            return Err(LineFault::NoQuote);
-        }
+        let inside = text.strip_prefix(b"\"").ok_or(LineFault::NoQuote)?;
         Quoted::behind_quote(heap, inside)
     }
 }

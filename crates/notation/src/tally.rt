@@ -4,7 +4,7 @@ ghost use Rattle.notation.specs.Tallies.{one_added, more_if, more_unless};
 
 use std::fmt;
 
-#[derive(Clone, Copy)]
+#[derive(Clone, Copy, Default)]
 pub struct Tally {
     taken: u64,
     refused: u64,
@@ -12,18 +12,6 @@ pub struct Tally {
 }
 
 impl Tally {
-    pub fn new() -> Tally
-        ensures taken { result.taken ≡ 0 }
-        ensures refused { result.refused ≡ 0 }
-        ensures not_read { result.not_read ≡ 0 }
-    {
-        Tally {
-            taken: 0,
-            refused: 0,
-            not_read: 0,
-        }
-    }
-
     /// A line whose content was taken, or refused.
     pub fn count(&mut self, taken: bool)
         ensures taken { self.new.taken ≡ more_if taken self.old.taken }

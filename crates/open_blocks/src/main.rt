@@ -2,24 +2,20 @@
 //! it is refused. With the argument `count` it prints only how many blocks were accepted and refused.
 #![tactic(auto)]
 
-mod fault;
-mod hex;
-mod lines;
 mod refusal;
 mod report;
 mod rows;
-mod tally;
-mod words;
 
-use crate::hex::read_bytes;
-use crate::lines::{Line, Lines};
 use crate::refusal::Refusal;
-use crate::report::{Facts, NotRead};
+use crate::report::Facts;
 use crate::rows::print_rows;
-use crate::tally::Tally;
 use anyhow::anyhow;
 use blocks::faults::BlockFault;
 use blocks::sdk_span::{SdkSpan, open};
+use notation::cut::{Line, Lines};
+use notation::hex::read_bytes;
+use notation::report::NotRead;
+use notation::tally::{Summary, Tally};
 use std::env;
 use std::io::Read;
 
@@ -94,11 +90,12 @@ fn run(rt: &HostRuntime) -> anyhow::Result<()> {
     let mode = read_mode(rt)?;
     let mut input = Vec::new(rt.alloc());
     rt.stdin().read_to_end(&mut input)?;
-    let mut tally = Tally::new();
+    let mut tally = Tally::default();
     for line in Lines::new(input.as_slice()) {
         open_line(rt, mode, line, &mut tally)?;
     }
-    println!(rt; "{tally}")?;
+    let taken = "blocks accepted";
+    println!(rt; "{}", Summary { taken, tally })?;
     Ok(())
 }
 

@@ -1,18 +1,8 @@
-//! What is printed of a line: a label and a value in each row.
-use crate::fault::LineFault;
-use crate::words::{span_kind_word, status_word};
+//! What is printed of a block that is accepted: a label and a value in each row.
 use blocks::sdk_span::SdkSpan;
 use escape::Escaped;
+use notation::report::write_row;
 use std::fmt;
-use std::fmt::Display;
-
-pub fn write_row<W: fmt::Write, D: Display + Drop>(
-    f: &mut fmt::Formatter<W>,
-    label: &str,
-    value: D,
-) -> fmt::Result {
-    writeln!(f, "  {label:<14} {value}")
-}
 
 fn write_ids<W: fmt::Write>(f: &mut fmt::Formatter<W>, span: SdkSpan<'_>) -> fmt::Result {
     let high = span.trace_id_high();
@@ -27,8 +17,8 @@ fn write_ids<W: fmt::Write>(f: &mut fmt::Formatter<W>, span: SdkSpan<'_>) -> fmt
 fn write_course<W: fmt::Write>(f: &mut fmt::Formatter<W>, span: SdkSpan<'_>) -> fmt::Result {
     write_row(f, "start", span.start_time())?;
     write_row(f, "end", span.end_time())?;
-    write_row(f, "kind", span_kind_word(span.kind()))?;
-    write_row(f, "status", status_word(span.status()))
+    write_row(f, "kind", span.kind())?;
+    write_row(f, "status", span.status())
 }
 
 fn write_texts<W: fmt::Write>(f: &mut fmt::Formatter<W>, span: SdkSpan<'_>) -> fmt::Result {
@@ -66,20 +56,5 @@ impl fmt::Display for Facts<'_> {
         write_course(f, self.span)?;
         write_texts(f, self.span)?;
         write_counts(f, self.span)
-    }
-}
-
-/// A line that is not read.
-#[derive(Clone, Copy)]
-pub struct NotRead {
-    pub line: u64,
-    pub fault: LineFault,
-}
-
-impl fmt::Display for NotRead {
-    fn fmt<W: fmt::Write>(&self, f: &mut fmt::Formatter<W>) -> fmt::Result {
-        let line = self.line;
-        let fault = self.fault;
-        writeln!(f, "line {line:<11} not read: {fault}")
     }
 }

@@ -1,10 +1,9 @@
 //! What is printed of a row: its number, list and key in columns, and what its list gives it.
-use crate::hex::Hex;
-use crate::words::{list_word, value_kind_word};
 use blocks::lists::List;
 use blocks::row::Row;
 use blocks::sdk_span::SdkSpan;
 use escape::Escaped;
+use notation::hex::Hex;
 use std::fmt;
 use values::kinds::ValueKind;
 use values::show::display_text;
@@ -18,15 +17,14 @@ struct Content<'a> {
 }
 
 fn write_value<W: fmt::Write>(f: &mut fmt::Formatter<W>, row: Row<'_>) -> fmt::Result {
-    let Some(kind) = ValueKind::from_number(row.kind) else {
+    let Ok(kind) = ValueKind::try_from(row.kind) else {
         let number = row.kind;
         return write!(f, "no kind has the number {number}");
     };
     let mut text = [0u8; 4096];
     let len = display_text(&Value::new(kind, row.value), &mut text);
-    let word = value_kind_word(kind);
     let shown = Escaped(lent_bytes::memory::part(&text, 0, len));
-    write!(f, "{word:<8} {shown}")
+    write!(f, "{kind:<8} {shown}")
 }
 
 impl fmt::Display for Content<'_> {
@@ -46,16 +44,26 @@ impl fmt::Display for Content<'_> {
     }
 }
 
+/// The name of a row's list, where there is such a list.
+#[derive(Clone, Copy)]
+struct ListName(Option<List>);
+
+impl fmt::Display for ListName {
+    fn fmt<W: fmt::Write>(&self, f: &mut fmt::Formatter<W>) -> fmt::Result {
+        match self.0 {
+            Some(list) => list.fmt(f),
+            None => f.pad("no list"),
+        }
+    }
+}
+
 fn print_row(rt: &HostRuntime, number: u16, row: Row<'_>) -> anyhow::Result<()> {
-    let list = List::from_number(row.list);
-    let word = match list {
-        Some(list) => list_word(list),
-        None => "no list",
-    };
+    let list = List::try_from(row.list).ok();
+    let name = ListName(list);
     // A column is filled up behind text alone, so the key becomes text first.
     let key = Escaped(row.key).to_string(rt.alloc())?;
     let content = Content { list, row };
-    println!(rt; "  {number:>5} {word:<15} {key:<28} {content}")?;
+    println!(rt; "  {number:>5} {name:<15} {key:<28} {content}")?;
     Ok(())
 }
 

@@ -34,7 +34,7 @@ fn read_line(rt: &HostRuntime, line: Line<'_>) -> anyhow::Result<()> {
                 println!(rt; "line {number}")?;
                 print_span(rt, &span)?;
             }
-            Err(fault) => println!(rt; "line {number} refused: {}", fault.number())?,
+            Err(fault) => println!(rt; "line {number} refused: {}", u8::from(fault))?,
         },
         Err(fault) => println!(rt; "line {number} not read: {fault}")?,
     }

@@ -6,6 +6,7 @@ use derived::fields::{
 use lent_bytes::memory::part;
 use names::attribute_keys::{AttributeKey, attribute_keys};
 use readers::otel_util::OtelSpan;
+use std::convert::AsSlice;
 
 /// Prints a side of a key: the text in the first bytes of `text`, if it is there.
 fn print_side(
@@ -54,40 +55,80 @@ pub fn print_keys<S: OtelSpan>(rt: &HostRuntime, span: &S) -> anyhow::Result<()>
     Ok(())
 }
 
-fn print_texts(rt: &HostRuntime, field: &str, a: &[u8], b: &[u8]) -> anyhow::Result<()> {
-    println!(rt; "{field} {} {}", Token(a), Token(b))?;
+/// Prints a text behind a space, as it is derived into a buffer.
+fn print_text<B: AsSlice<u8>, F: FnOnce(&mut B) -> usize>(
+    rt: &HostRuntime,
+    buffer: &mut B,
+    derive: F,
+) -> anyhow::Result<()>
+    requires { F.IsAlwaysCallable derive }
+{
+    let len = derive(buffer);
+    print!(rt; " {}", Token(part(buffer.as_slice(), 0, len)))?;
     Ok(())
 }
 
-/// Prints the fields that may be composed, of two readers side by side.
+/// Prints a text field of two readers side by side.
+fn print_field<B: AsSlice<u8>, F: FnOnce(&mut B) -> usize, G: FnOnce(&mut B) -> usize>(
+    rt: &HostRuntime,
+    field: &str,
+    buffer: &mut B,
+    one: F,
+    other: G,
+) -> anyhow::Result<()>
+    requires one { F.IsAlwaysCallable one }
+    requires other { G.IsAlwaysCallable other }
+{
+    print!(rt; "{field}")?;
+    print_text(rt, buffer, one)?;
+    print_text(rt, buffer, other)?;
+    println!(rt; "")?;
+    Ok(())
+}
+
+/// Prints the fields that may be composed.
 fn print_long<A: OtelSpan, B: OtelSpan>(rt: &HostRuntime, a: &A, b: &B) -> anyhow::Result<()> {
-    let mut x = [0u8; 8200];
-    let mut y = [0u8; 8200];
-    let n = datadog_name(a, &mut x);
-    let m = datadog_name(b, &mut y);
-    print_texts(rt, "name", part(&x, 0, n), part(&y, 0, m))?;
-    let n = datadog_resource(a, &mut x);
-    let m = datadog_resource(b, &mut y);
-    print_texts(rt, "resource", part(&x, 0, n), part(&y, 0, m))
+    let mut out = [0u8; 8200];
+    print_field(
+        rt,
+        "name",
+        &mut out,
+        |out| datadog_name(a, out),
+        |out| datadog_name(b, out),
+    )?;
+    print_field(
+        rt,
+        "resource",
+        &mut out,
+        |out| datadog_resource(a, out),
+        |out| datadog_resource(b, out),
+    )
 }
 
-/// Prints the other fields, of two readers side by side.
+/// Prints the other texts.
 fn print_short<A: OtelSpan, B: OtelSpan>(rt: &HostRuntime, a: &A, b: &B) -> anyhow::Result<()> {
-    let mut x = [0u8; 4096];
-    let mut y = [0u8; 4096];
-    let n = datadog_type(a, &mut x);
-    let m = datadog_type(b, &mut y);
-    print_texts(rt, "type", part(&x, 0, n), part(&y, 0, m))?;
-    let n = datadog_service(a, &mut x);
-    let m = datadog_service(b, &mut y);
-    print_texts(rt, "service", part(&x, 0, n), part(&y, 0, m))?;
-    let n = datadog_env(a, &mut x);
-    let m = datadog_env(b, &mut y);
-    print_texts(rt, "environment", part(&x, 0, n), part(&y, 0, m))?;
-    let code = datadog_status_code(a);
-    let other = datadog_status_code(b);
-    println!(rt; "status_code {code} {other}")?;
-    Ok(())
+    let mut out = [0u8; 4096];
+    print_field(
+        rt,
+        "type",
+        &mut out,
+        |out| datadog_type(a, out),
+        |out| datadog_type(b, out),
+    )?;
+    print_field(
+        rt,
+        "service",
+        &mut out,
+        |out| datadog_service(a, out),
+        |out| datadog_service(b, out),
+    )?;
+    print_field(
+        rt,
+        "environment",
+        &mut out,
+        |out| datadog_env(a, out),
+        |out| datadog_env(b, out),
+    )
 }
 
 /// Prints the six fields of two readers side by side.
@@ -97,5 +138,9 @@ pub fn print_fields<A: OtelSpan, B: OtelSpan>(
     b: &B,
 ) -> anyhow::Result<()> {
     print_long(rt, a, b)?;
-    print_short(rt, a, b)
+    print_short(rt, a, b)?;
+    let code = datadog_status_code(a);
+    let other = datadog_status_code(b);
+    println!(rt; "status_code {code} {other}")?;
+    Ok(())
 }

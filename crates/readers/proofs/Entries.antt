@@ -1,8 +1,11 @@
 -- What a look-up in a table gives.
-use Rattle.std.proofs.Common.{◌≡◌, ℕ, ◌≤◌, true, leb, List, [], ◌∷◌, length, Some, None, Option, ◌∙◌, ⊎_elim, arith}
+use Rattle.std.proofs.Common.{◌≡◌, ℕ, ◌≤◌, true, leb, List, [], ◌∷◌, length, Some, None, Option, Bor, refl, ◌∙◌, inl, inr, ⊎_elim, arith}
+use Rattle.std.specs.List.{find}
+use Rattle.std.specs.Option.{option_map, unwrap_or}
+use Rattle.readers.specs.declared.tables.Entry.{Entry}
 use Rattle.std.specs.Str.{bytes_eq}
 use Rattle.std.proofs.lemmas.Bool.{cases_Bool, and_parts, leb-true, cond-true, cond-false}
-use Rattle.readers.specs.Tables.{Pair, entry_for, within}
+use Rattle.readers.specs.Tables.{Pair, entry_for, within, pairs_of}
 use Rattle.readers.specs.Texts.{or_absent}
 
 pub or_some : (o : Option (List ℕ)) (x d : List ℕ) → Some x ≡ o → x ≡ or_absent o d
@@ -10,6 +13,11 @@ or_some o x d e = rw (← e)
 
 pub or_none : (o : Option (List ℕ)) (d : List ℕ) → None ≡ o → d ≡ or_absent o d
 or_none o d e = rw (← e)
+
+-- with another text where the table has none
+pub or_default : (o : Option (Bor (List ℕ))) (d : Bor (List ℕ)) (e : Option (List ℕ)) → option_map (λ x. x.now) o ≡ e → (unwrap_or o d).now ≡ or_absent e d.now
+or_default None d e h = rw (← h) refl
+or_default (Some x) d e h = rw (← h) refl
 
 -- its texts are as short as the table's
 pub entry_within : (w : ℕ) (t : List ℕ) (ps : List Pair) (x : List ℕ) → within w ps ≡ true → Some x ≡ entry_for t ps → length x ≤ w
@@ -20,3 +28,16 @@ entry_within w t (p ∷ ps) x h e =
     (λ b. let f : Some x ≡ Some p.into = e ∙ cond-true _ _ _ b in let i : x ≡ p.into = cc in rw i (leb-true (length p.into) w a.0))
     (λ b. entry_within w t ps x a.1 (e ∙ cond-false _ _ _ b))
     (cases_Bool (bytes_eq p.from t))
+
+or_within : (w : ℕ) (t : List ℕ) (ps : List Pair) (d : List ℕ) (o : Option (List ℕ)) → within w ps ≡ true → length d ≤ w → o ≡ entry_for t ps → length (or_absent o d) ≤ w
+or_within w t ps d None h l e = l
+or_within w t ps d (Some x) h l e = entry_within w t ps x h e
+
+pub default_within : (w : ℕ) (t : List ℕ) (ps : List Pair) (d : List ℕ) → within w ps ≡ true → length d ≤ w → length (or_absent (entry_for t ps) d) ≤ w
+default_within w t ps d h l = or_within w t ps d (entry_for t ps) h l refl
+
+-- the library's search, over the rows of the code's table
+pub entry_found : (t : List ℕ) (es : List Entry) → option_map (λ e. e.to.now) (find (λ e. bytes_eq e.from.now t) es) ≡ entry_for t (pairs_of es)
+entry_found t [] = refl
+entry_found t (e ∷ es) =
+    elim (cases_Bool (bytes_eq e.from.now t)) [ inl h ↦ rw h refl | inr h ↦ rw h (entry_found t es) ]

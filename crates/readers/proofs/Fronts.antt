@@ -12,10 +12,6 @@ pub portion-short : (m : List ℕ) (at n : ℕ) → length (portion m at n) ≤ 
 unfolding portion
 portion-short m at n = simp (length-take, length-drop) (omega arith)
 
-pub portion-at : (p q : List ℕ) (n : ℕ) → length p ≡ n → portion (p ++ q) 0 n ≡ p
-unfolding portion
-portion-at p q n h = take_at p q n h
-
 -- what was made of the first bytes, in place
 pub made-front : (w n a : ℕ) (f : ℕ → ℕ) (xs p q : List ℕ) → length xs ≡ w → a ≡ min n w → p ≡ map f (take a xs) → portion (p ++ q) 0 a ≡ map f (portion xs 0 n)
 unfolding portion

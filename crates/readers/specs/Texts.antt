@@ -47,15 +47,17 @@ abbrev pub res_span_text : Reading → List ℕ → List ℕ
 res_span_text r [] = []
 res_span_text r (k ∷ ks) = or_absent (res_span_opt r k) (res_span_text r ks)
 
--- the first text of the span under the keys that is not empty
-abbrev pub first_span_text : Reading → List ℕ → List ℕ
-first_span_text r [] = []
-first_span_text r (k ∷ ks) = or_else (span_text r k) (first_span_text r ks)
+-- the first text under the keys that is not empty, of the texts under all keys
+abbrev pub first_text : (ℕ → List ℕ) → List ℕ → List ℕ
+first_text t [] = []
+first_text t (k ∷ ks) = or_else (t k) (first_text t ks)
 
--- the same of the resource
+-- on the span, and on the resource
+abbrev pub first_span_text : Reading → List ℕ → List ℕ
+first_span_text r ks = first_text (span_text r) ks
+
 abbrev pub first_resource_text : Reading → List ℕ → List ℕ
-first_resource_text r [] = []
-first_resource_text r (k ∷ ks) = or_else (resource_text r k) (first_resource_text r ks)
+first_resource_text r ks = first_text (resource_text r) ks
 
 -- a text that is written if there is one; else the memory stays as it was
 abbrev pub offered_in : ℕ → Option (List ℕ) → List ℕ → List ℕ

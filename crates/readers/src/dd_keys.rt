@@ -5,8 +5,8 @@ ghost use Rattle.readers.specs.Tables.{entry_for};
 ghost use Rattle.readers.specs.DatadogKeys.{http_names, begins, is_convention_key, plain_key, datadog_key, key_prefix, key_name, key_of};
 
 use crate::tables::{Entry, find};
-use lent_bytes::memory::{after, part};
-use lent_bytes::tables::{index_of, same};
+use lent_bytes::memory::after;
+use lent_bytes::tables::index_of;
 use names::semconv;
 
 /// The names that HTTP attributes have at Datadog.
@@ -75,7 +75,7 @@ pub fn http_mappings(k: &[u8]) -> Option<&'static [u8]>
 fn starts(k: &[u8], prefix: &[u8]) -> bool
     ensures { result ≡ begins prefix.now k.now }
 {
-    same(part(k, 0, prefix.len()), prefix)
+    k.starts_with(prefix)
 }
 
 /// Whether a key is read for a field of its own, so that it goes under no key.
@@ -85,7 +85,8 @@ pub fn is_datadog_convention_key(k: &[u8]) -> bool
     index_of(&CONVENTION_KEYS, k).is_some() || starts(k, b"datadog.")
 }
 
-/// The key under which an attribute goes to Datadog.
+/// The key under which an attribute goes to Datadog. That there is none is one of four answers: an `Option` around the
+/// other three would be no plainer.
 #[derive(Clone, Copy)]
 pub enum DdKey<'a> {
     /// Another name.
@@ -136,6 +137,7 @@ impl<'a> DdKey<'a> {
         ensures { result.now ≡ key_name (key_of self.now) }
     {
         match self {
+            // An arm each: one pattern for all is not covered, since the names have two lifetimes.
             DdKey::Mapped(name) => *name,
             DdKey::Header(name) => *name,
             DdKey::Dropped => b"",

@@ -2,6 +2,7 @@
 #![tactic(auto)]
 
 pub mod dd_keys;
+pub mod first_texts;
 pub mod otel_util;
 pub mod tables;
 pub mod texts;

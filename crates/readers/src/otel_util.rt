@@ -2,13 +2,14 @@
 ghost use Rattle.std.specs.Prelude.{◌≡◌, ◌≤◌, length, is_some};
 ghost use Rattle.lent_bytes.specs.Memory.{padded};
 ghost use Rattle.readers.specs.Reading.{Reading, text_of, number_of, bytes_of, size_of};
-ghost use Rattle.readers.specs.Texts.{Filled, span_text, resource_text, places_of, res_span_opt, res_span_text, first_span_text, first_resource_text};
+ghost use Rattle.readers.specs.Texts.{Filled, span_text, places_of, res_span_opt, res_span_text};
 
 use blocks::span_kind::SpanKind;
-use lent_bytes::texts::finish;
+use lent_bytes::texts::TextWriter;
 use names::attribute_keys::AttributeKey;
 
-/// A span as it is read: a name, a kind, and what the span and its resource say under the known keys.
+/// A span as it is read: a name, a kind, and what the span and its resource say under the known keys. Nothing is
+/// allocated, so texts go to memory that the caller hands in, and their lengths are answered.
 pub trait OtelSpan {
     ghost reading: { Self → Reading };
 
@@ -43,20 +44,7 @@ pub trait OtelSpan {
 pub fn get_attr_str<S: OtelSpan>(span: &S, key: AttributeKey, out: &mut [u8; 4096]) -> usize
     ensures { Filled 4096 (span_text (S.OtelSpan.reading span.now) key.idx) result out.new }
 {
-    match span.get_attr_str_opt(key, out) {
-        Some(n) => n,
-        None => 0,
-    }
-}
-
-/// The text of a resource's attribute, the empty one where it has none.
-fn get_res_attribute<S: OtelSpan>(span: &S, key: AttributeKey, out: &mut [u8; 4096]) -> usize
-    ensures { Filled 4096 (resource_text (S.OtelSpan.reading span.now) key.idx) result out.new }
-{
-    match span.get_res_attribute_opt(key, out) {
-        Some(n) => n,
-        None => 0,
-    }
+    span.get_attr_str_opt(key, out).unwrap_or(0)
 }
 
 /// The text under one key: of the resource unless empty, else of the span, if it has one.
@@ -87,39 +75,5 @@ pub fn get_res_span_attributes<S: OtelSpan>(
             return n;
         }
     }
-    finish(out, 0)
-}
-
-/// The first text of the span under the keys that is not empty.
-pub fn get_span_attributes<S: OtelSpan>(
-    span: &S,
-    attributes: &[AttributeKey],
-    out: &mut [u8; 4096],
-) -> usize
-    ensures { Filled 4096 (first_span_text (S.OtelSpan.reading span.now) (places_of attributes.now)) result out.new }
-{
-    for key in attributes {
-        let n = get_attr_str(span, *key, out);
-        if n > 0 {
-            return n;
-        }
-    }
-    finish(out, 0)
-}
-
-/// The first text of the resource under the keys that is not empty.
-pub fn get_res_attributes<S: OtelSpan>(
-    span: &S,
-    attributes: &[AttributeKey],
-    out: &mut [u8; 4096],
-) -> usize
-    ensures { Filled 4096 (first_resource_text (S.OtelSpan.reading span.now) (places_of attributes.now)) result out.new }
-{
-    for key in attributes {
-        let n = get_res_attribute(span, *key, out);
-        if n > 0 {
-            return n;
-        }
-    }
-    finish(out, 0)
+    TextWriter::new(out).finish()
 }

@@ -3,8 +3,6 @@ ghost use Rattle.std.specs.Prelude.{◌≡◌};
 ghost use Rattle.std.specs.Option.{option_map};
 ghost use Rattle.readers.specs.Tables.{entry_for, pairs_of};
 
-use lent_bytes::tables::same;
-
 /// A text and what stands for it.
 #[derive(Clone, Copy)]
 pub struct Entry {
@@ -16,10 +14,6 @@ pub struct Entry {
 pub fn find(table: &[Entry], text: &[u8]) -> Option<&'static [u8]>
     ensures { option_map (λ x. x.now) result ≡ entry_for text.now (pairs_of table.now) }
 {
-    for entry in table {
-        if same(entry.from, text) {
-            return Some(entry.to);
-        }
-    }
-    None
+    let entry = table.iter().find(|entry| entry.from == text)?;
+    Some(entry.to)
 }

@@ -1,7 +1,7 @@
 -- What is noted of a row, by its list.
-use Rattle.std.proofs.Common.{◌≡◌, ℕ, eqb, List, [], Option, sym, ap, ◌∙◌}
+use Rattle.std.proofs.Common.{◌≡◌, ℕ, Bool, true, false, cond, eqb, List, Some, None, Option, sym, ap, ◌∙◌, arith}
 use Rattle.std.specs.Option.{option_map}
-use Rattle.std.proofs.lemmas.Bool.{eq-eqb, ne_eqb, cond-true, cond-false}
+use Rattle.std.proofs.lemmas.Bool.{eq-eqb, cond-true}
 use Rattle.names.specs.Keys.{key_at, known}
 use Rattle.names.specs.Places.{noted}
 use Rattle.blocks.specs.Facts.{RowFact}
@@ -12,7 +12,7 @@ of_list_lem l i f before after e h =
     let k : list_key l f ≡ f.key = cond-true (eqb f.list l) _ _ (eq-eqb f.list l e) in
     h ∙ ap (λ x. noted (option_map key_at (known x)) i before) (sym k)
 
-pub of_other : (l i : ℕ) (f : RowFact) (before : List (Option ℕ)) → (f.list ≡ l → ⊥) → before ≡ noted (option_map key_at (known (list_key l f))) i before
-of_other l i f before n =
-    let k : list_key l f ≡ [] = cond-false (eqb f.list l) _ _ (ne_eqb f.list l n) in
-    sym (ap (λ x. noted (option_map key_at (known x)) i before) k)
+-- a number that a list was read from
+pub named : (n x : ℕ) (b : Bool) → Some x ≡ cond b (Some n) None → n ≡ x
+named n x true e = cc
+named n x false e = let z : ◌≡◌ {A = ℕ} 0 1 = cc in absurd (omega arith)

@@ -1,10 +1,10 @@
 -- The rows that were noted are the last of their keys.
 use Rattle.std.proofs.Common.{◌≡◌, ℕ, zero, suc, ◌+◌, ◌<◌, ◌≤◌, Bool, true, false, cond, ◌&&◌, eqb, ltb, List, [], ◌∷◌, map, length, get_or, take, Some, None, Option, sym, refl, ap, ◌∙◌, arith}
 use mathlib.Core.Path.{fun_ext}
-use Rattle.std.specs.List.{range_with_len, slice_get}
+use Rattle.std.specs.List.{range_with_len}
 use Rattle.std.specs.Option.{option_map}
 use Rattle.std.specs.Str.{bytes_eq}
-use Rattle.std.proofs.lemmas.Bool.{cond-true, cond_both, lt-ltb, ltb-true, ltb-false}
+use Rattle.std.proofs.lemmas.Bool.{cond-true, lt-ltb}
 use Rattle.std.proofs.lemmas.List.{length-map, get_or-map, take_all}
 use Rattle.names.specs.Keys.{keys, key_at, known}
 use Rattle.names.specs.Places.{or_else, noted, last_from, last_place, LastAt}
@@ -12,13 +12,8 @@ use Rattle.names.proofs.Ends.{last_exactly_lem}
 use Rattle.names.proofs.Lasts.{lasts_noted}
 use Rattle.blocks.specs.Facts.{RowFact, facts, row_fact, row_facts}
 use Rattle.blocks.specs.Layout.{rows_in}
-use Rattle.blocks.proofs.Projected.{row-there, row-past}
 use Rattle.span_args.specs.ReadingOf.{list_key, or_row, last_row_of, row_in, span_known, resource_shown, reading_of, reading_by}
 use Rattle.blocks.proofs.Projected.{rows_mapped}
-
--- a row by its number
-pub row_is : (m : List ℕ) (i : ℕ) → slice_get (row_facts m) i ≡ cond (ltb i (rows_in m)) (Some (row_fact m i)) None
-row_is m i = cond_both (ltb i (rows_in m)) (Some (row_fact m i)) None (λ o. slice_get (row_facts m) i ≡ o) (λ t. row-there m i (ltb-true _ _ t)) (λ f. row-past m i (ltb-false _ _ f))
 
 -- a function of the last place of a text that is not empty, and of the last row
 module _ (g : ℕ → RowFact) (l : ℕ) where

@@ -1,21 +1,23 @@
 //! A span in a block, with the rows of the known keys noted.
-ghost use Rattle.std.specs.Prelude.{◌≡◌, None, slice_index_or};
+ghost use Rattle.std.specs.Prelude.{◌≡◌, ℕ, List, None, slice_index_or};
 ghost use Rattle.std.specs.Option.{option_map};
-ghost use Rattle.lent_bytes.specs.Memory.{Placed, padded};
+ghost use Rattle.lent_bytes.specs.Memory.{Placed, clip, padded};
 ghost use Rattle.names.specs.Keys.{key_at, known};
 ghost use Rattle.names.specs.Places.{noted};
+ghost use Rattle.values.specs.Atoms.{Datum};
 ghost use Rattle.values.specs.Format.{meant};
 ghost use Rattle.values.specs.Shown.{display, string_repr};
 ghost use Rattle.blocks.specs.Facts.{facts, fact_of};
 ghost use Rattle.readers.specs.Reading.{size_of, bytes_of, text_of, number_of};
 ghost use Rattle.span_args.specs.ReadingOf.{list_key, datum_at, shown_by, span_known, resource_shown, row_in, reading_by, reading_of};
 
+use blocks::lists::List;
 use blocks::row::Row;
 use blocks::sdk_span::SdkSpan;
 use blocks::span_kind::SpanKind;
-use lent_bytes::texts::{finish, write_text};
+use lent_bytes::texts::{TextWriter, write_text};
 use names::attribute_indices::AttributeIndices;
-use names::attribute_keys::{AttributeKey, get_attribute_idx};
+use names::attribute_keys::AttributeKey;
 use readers::otel_util::OtelSpan;
 use values::kinds::ValueKind;
 use values::show::{display_text, otel_value_string_repr};
@@ -34,38 +36,61 @@ pub struct SpanExtractArgs<'a> {
 fn value_of<'a>(row: &Row<'a>) -> Option<Value<'a>>
     ensures { option_map meant result ≡ datum_at (fact_of row.now) }
 {
-    match ValueKind::from_number(row.kind) {
-        Some(kind) => Some(Value::new(kind, row.value)),
-        None => None,
+    let kind = ValueKind::try_from(row.kind).ok()?;
+    Some(Value::new(kind, row.value))
+}
+
+/// What a value says, as a text.
+trait Shown {
+    ghost text: { Datum → List ℕ };
+
+    fn show(value: &Value<'_>, out: &mut [u8; 4096]) -> usize
+        ensures { Placed 4096 (text (meant value.now)) result out.new };
+}
+
+/// On a span.
+struct OnSpan;
+
+/// On a resource.
+struct OnResource;
+
+impl Shown for OnSpan {
+    ghost text = { string_repr };
+
+    fn show(value: &Value<'_>, out: &mut [u8; 4096]) -> usize {
+        otel_value_string_repr(value, out)
     }
 }
 
-/// What the span says by a row.
-fn span_text(row: &Row<'_>, out: &mut [u8; 4096]) -> usize
-    ensures { Placed 4096 (shown_by string_repr (datum_at (fact_of row.now))) result out.new }
+impl Shown for OnResource {
+    ghost text = { display };
+
+    fn show(value: &Value<'_>, out: &mut [u8; 4096]) -> usize {
+        display_text(value, out)
+    }
+}
+
+/// What a row says.
+fn row_text<T: Shown>(row: &Row<'_>, out: &mut [u8; 4096]) -> usize
+    ensures { Placed 4096 (shown_by T.Shown.text (datum_at (fact_of row.now))) result out.new }
 {
     match value_of(row) {
-        Some(value) => otel_value_string_repr(&value, out),
+        Some(value) => T::show(&value, out),
         None => write_text(out, b""),
     }
 }
 
-/// What the resource says by a row.
-fn resource_text(row: &Row<'_>, out: &mut [u8; 4096]) -> usize
-    ensures { Placed 4096 (shown_by display (datum_at (fact_of row.now))) result out.new }
+/// What a row says, if there is one; else the memory is all zeros.
+fn row_text_opt<T: Shown>(row: Option<Row<'_>>, out: &mut [u8; 4096]) -> Option<usize>
+    ensures size { result ≡ size_of (option_map (λ f. clip 4096 (shown_by T.Shown.text (datum_at f))) (option_map fact_of row.entry)) }
+    ensures text { out.new ≡ padded 4096 (bytes_of (option_map (λ f. clip 4096 (shown_by T.Shown.text (datum_at f))) (option_map fact_of row.entry))) }
 {
-    match value_of(row) {
-        Some(value) => display_text(&value, out),
-        None => write_text(out, b""),
-    }
-}
-
-/// Notes the row `i` for its key, if that is known.
-fn note(indices: &mut AttributeIndices, key: &[u8], i: u16)
-    ensures { indices.new.places ≡ noted (option_map key_at (known key.now)) i indices.old.places }
-{
-    if let Some(found) = get_attribute_idx(key) {
-        indices.set(found, i as usize);
+    match row {
+        Some(row) => Some(row_text::<T>(&row, out)),
+        None => {
+            TextWriter::new(out).finish();
+            None
+        }
     }
 }
 
@@ -93,9 +118,9 @@ fn note_row(
     ensures span { span_attrs.new.places ≡ noted (option_map key_at (known (list_key 0 (fact_of row.now)))) i span_attrs.old.places }
     ensures resource { res_attrs.new.places ≡ noted (option_map key_at (known (list_key 1 (fact_of row.now)))) i res_attrs.old.places }
 {
-    match row.list {
-        0 => note(span_attrs, row.key, i),
-        1 => note(res_attrs, row.key, i),
+    match List::try_from(row.list) {
+        Ok(List::Span) => span_attrs.note(row.key, i as usize),
+        Ok(List::Resource) => res_attrs.note(row.key, i as usize),
         _ => {}
     }
 }
@@ -108,6 +133,7 @@ impl<'a> SpanExtractArgs<'a> {
     {
         let mut span_attrs = AttributeIndices::default();
         let mut res_attrs = AttributeIndices::default();
+        // By number, since the number is what is noted.
         for i in 0..span.row_count() {
             if let Some(row) = span.row(i) {
                 note_row(&row, i, &mut span_attrs, &mut res_attrs);
@@ -137,13 +163,7 @@ impl<'a> OtelSpan for SpanExtractArgs<'a> {
     }
 
     fn get_attr_str_opt(&self, key: AttributeKey, out: &mut [u8; 4096]) -> Option<usize> {
-        match noted_row(&self.span, &self.span_attrs, key) {
-            Some(row) => Some(span_text(&row, out)),
-            None => {
-                finish(out, 0);
-                None
-            }
-        }
+        row_text_opt::<OnSpan>(noted_row(&self.span, &self.span_attrs, key), out)
     }
 
     fn get_attr_num(&self, key: AttributeKey) -> Option<i64> {
@@ -153,12 +173,6 @@ impl<'a> OtelSpan for SpanExtractArgs<'a> {
     }
 
     fn get_res_attribute_opt(&self, key: AttributeKey, out: &mut [u8; 4096]) -> Option<usize> {
-        match noted_row(&self.span, &self.res_attrs, key) {
-            Some(row) => Some(resource_text(&row, out)),
-            None => {
-                finish(out, 0);
-                None
-            }
-        }
+        row_text_opt::<OnResource>(noted_row(&self.span, &self.res_attrs, key), out)
     }
 }

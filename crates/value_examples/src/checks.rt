@@ -10,7 +10,7 @@ use values::value::Scalar;
 fn refusal(kind: u8, bytes: &[u8]) -> u8 {
     match values::check::check(kind, bytes) {
         Ok(_) => 0,
-        Err(fault) => fault.number(),
+        Err(fault) => u8::from(fault),
     }
 }
 
@@ -69,9 +69,9 @@ fn the_order_of_the_checks(rt: HostRuntime) {
 
 #[test]
 fn parts_of_the_check(rt: HostRuntime) -> Result<(), Fail> {
-    assert_eq!(rt; ValueFault::Form.number(), 8);
-    assert_eq!(rt; ValueFault::NotUtf8.number(), 5);
-    assert_eq!(rt; ValueFault::TooLong.number(), 9);
+    assert_eq!(rt; u8::from(ValueFault::Form), 8);
+    assert_eq!(rt; u8::from(ValueFault::NotUtf8), 5);
+    assert_eq!(rt; u8::from(ValueFault::TooLong), 9);
     assert!(rt; is_text(b"\xf4\x8f\xbf\xbf"));
     assert!(rt; !is_text(b"\xf4\x90\x80\x80"));
     assert!(rt; first_element(ScalarKind::I64, b"1234567").is_none());

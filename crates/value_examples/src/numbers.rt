@@ -56,12 +56,12 @@ fn numbers_and_metrics_of_values(rt: HostRuntime) {
 #[test]
 fn kinds_by_number(rt: HostRuntime) -> Result<(), Fail> {
     for n in 0..8u8 {
-        let Some(kind) = ValueKind::from_number(n) else {
+        let Ok(kind) = ValueKind::try_from(n) else {
             return Err(Fail::new("no kind"));
         };
-        assert_eq!(rt; kind.number(), n);
-        assert_eq!(rt; Value::new(kind, b"").kind().number(), n);
+        assert_eq!(rt; u8::from(kind), n);
+        assert_eq!(rt; u8::from(Value::new(kind, b"").kind()), n);
     }
-    assert!(rt; ValueKind::from_number(8).is_none());
+    assert!(rt; ValueKind::try_from(8).is_err());
     Ok(())
 }

@@ -14,7 +14,7 @@ fn shows(
     repr: &[u8],
     plain: &[u8],
 ) -> Result<(), Fail> {
-    let Some(kind) = ValueKind::from_number(kind) else {
+    let Ok(kind) = ValueKind::try_from(kind) else {
         return Err(Fail::new("no kind"));
     };
     let value = Value::new(kind, bytes);

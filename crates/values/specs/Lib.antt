@@ -1,4 +1,5 @@
 pub mod Kinds
+pub mod KindNames
 pub mod Atoms
 pub mod Doubles
 pub mod Unicode

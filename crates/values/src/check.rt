@@ -4,12 +4,15 @@ ghost use Rattle.std.specs.Result.{result_err};
 ghost use Rattle.values.specs.Faults.{fault_number, value_fault};
 ghost use Rattle.values.specs.Format.{alone_formed, formed, meant, value_of};
 ghost use Rattle.values.specs.Shown.{display, datum_readable};
+ghost use Rattle.values.specs.declared.check.ValueFault.TheVariants.{Form};
 
 use crate::elements::{DOUBLE_TEXT, are_readable, fill, is_readable};
-use crate::kinds::{ScalarKind, ValueKind};
+use crate::kinds::{ScalarKind, UnknownKind, ValueKind};
 use crate::show::push_value;
 use crate::value::Value;
 use lent_bytes::memory::byte;
+use lent_bytes::texts::TextWriter;
+use std::fmt;
 
 /// What is wrong with bytes that are no value of their kind.
 #[derive(Clone, Copy, PartialEq, Eq, Debug)]
@@ -22,16 +25,24 @@ pub enum ValueFault {
     TooLong,
 }
 
-impl ValueFault {
-    /// The number under which this fault is answered.
-    pub fn number(self) -> u8
-        ensures { result ≡ fault_number self }
-    {
-        match self {
+impl From<ValueFault> for u8 {
+    ghost from_gives = { λ fault n. n ≡ fault_number fault };
+
+    /// The number under which a fault is answered.
+    fn from(fault: ValueFault) -> u8 {
+        match fault {
             ValueFault::Form => 8,
             ValueFault::NotUtf8 => 5,
             ValueFault::TooLong => 9,
         }
+    }
+}
+
+impl From<UnknownKind> for ValueFault {
+    ghost from_gives = { λ _ fault. fault ≡ Form };
+
+    fn from(_kind: UnknownKind) -> ValueFault {
+        Self::Form
     }
 }
 
@@ -70,18 +81,19 @@ fn is_too_long(value: Value<'_>) -> bool
     ensures { result ≡ nat_lt 4096 (length (display (meant value.entry))) }
 {
     let mut scratch = [0u8; 4097];
-    push_value(&mut scratch, 0, value, true) > 4096
+    let mut text = TextWriter::new(&mut scratch);
+    push_value(&mut text, value, true);
+    text.len() > 4096
 }
 
 /// The value that `bytes` are under a kind's number, or what is wrong with them: first their form,
-/// then the texts in them, then the length of the display text.
+/// then the texts in them, then the length of the display text. It takes the number that a dashboard sent, since one
+/// that names no kind is a fault of the form.
 pub fn check(kind: u8, bytes: &[u8]) -> Result<Value<'_>, ValueFault>
     ensures fault { result_err result ≡ value_fault kind bytes.now }
     ensures value { IfOk result (λ v. value_of kind bytes.now ≡ Some (meant v)) }
 {
-    let Some(kind) = ValueKind::from_number(kind) else {
-        return Err(ValueFault::Form);
-    };
+    let kind = ValueKind::try_from(kind)?;
     if !is_formed(kind, bytes) {
         return Err(ValueFault::Form);
     }
@@ -93,4 +105,14 @@ pub fn check(kind: u8, bytes: &[u8]) -> Result<Value<'_>, ValueFault>
         return Err(ValueFault::TooLong);
     }
     Ok(value)
+}
+
+impl fmt::Display for ValueFault {
+    fn fmt<W: fmt::Write>(&self, f: &mut fmt::Formatter<W>) -> fmt::Result {
+        f.pad(match self {
+            ValueFault::Form => "the bytes do not have the form of the kind",
+            ValueFault::NotUtf8 => "a text in the value is not UTF-8",
+            ValueFault::TooLong => "the display text has over 4,096 bytes",
+        })
+    }
 }

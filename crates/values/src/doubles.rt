@@ -59,9 +59,7 @@ fn in_units(q: u64, k: u64) -> Option<u64>
 fn with_sign(negative: bool, magnitude: Option<u64>) -> Option<i64>
     ensures { result ≡ signed_of negative magnitude }
 {
-    let Some(n) = magnitude else {
-        return None;
-    };
+    let n = magnitude?;
     if n < 0x8000_0000_0000_0000 {
         if negative {
             Some(0 - n as i64)

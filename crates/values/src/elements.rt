@@ -7,7 +7,7 @@ ghost use Rattle.values.specs.Shown.{readable, all_readable};
 use crate::kinds::ScalarKind;
 use crate::utf8::is_text;
 use crate::value::{Double, Scalar};
-use lent_bytes::fields::{i64_at, u16_at, u64_at};
+use lent_bytes::fields::Number;
 use lent_bytes::memory::{after, byte, part};
 
 /// An element, and how many bytes it takes.
@@ -20,7 +20,8 @@ pub struct Element<'a> {
 /// The longest text of a double, in bytes.
 pub const DOUBLE_TEXT: usize = 400;
 
-/// The element at the front of an array's bytes; none where there is none, or a broken one.
+/// The element at the front of an array's bytes; none where there is none, or a broken one. The walks over arrays call
+/// it in a `while let` and keep the bytes that are left: an iterator would hide them, and `fill` asks for them.
 pub fn first_element(kind: ScalarKind, bytes: &[u8]) -> Option<Element<'_>>
     ensures { option_map element_of result ≡ element kind bytes.now }
 {
@@ -36,15 +37,15 @@ pub fn first_element(kind: ScalarKind, bytes: &[u8]) -> Option<Element<'_>>
             if bytes.len() < 8 {
                 return None;
             }
-            let value = Scalar::I64(i64_at(bytes, 0));
+            let value = Scalar::I64(i64::read(bytes, 0));
             Some(Element { value, size: 8 })
         }
         ScalarKind::F64 => {
-            let n = u16_at(bytes, 8) as usize;
+            let n = u16::read(bytes, 8) as usize;
             if n == 0 || n > DOUBLE_TEXT || bytes.len() < 10 + n {
                 return None;
             }
-            let pattern = u64_at(bytes, 0);
+            let pattern = u64::read(bytes, 0);
             let text = part(bytes, 10, n);
             let value = Scalar::F64(Double { pattern, text });
             Some(Element {
@@ -53,7 +54,7 @@ pub fn first_element(kind: ScalarKind, bytes: &[u8]) -> Option<Element<'_>>
             })
         }
         ScalarKind::String => {
-            let n = u16_at(bytes, 0) as usize;
+            let n = u16::read(bytes, 0) as usize;
             if bytes.len() < 2 + n {
                 return None;
             }

@@ -5,7 +5,7 @@ ghost use Rattle.values.specs.Shown.{number_of, metric_of};
 
 use crate::doubles::{nearest_pattern, whole_number};
 use crate::kinds::{ScalarKind, ValueKind};
-use lent_bytes::fields::{i64_at, u64_at};
+use lent_bytes::fields::Number;
 use lent_bytes::memory::{after, byte};
 
 /// A double: its IEEE 754 binary64 pattern, and the text that it came with.
@@ -45,9 +45,9 @@ impl<'a> Scalar<'a> {
     {
         match kind {
             ScalarKind::Bool => Scalar::Bool(byte(bytes, 0) == 1),
-            ScalarKind::I64 => Scalar::I64(i64_at(bytes, 0)),
+            ScalarKind::I64 => Scalar::I64(i64::read(bytes, 0)),
             ScalarKind::F64 => {
-                let pattern = u64_at(bytes, 0);
+                let pattern = u64::read(bytes, 0);
                 let text = after(bytes, 8);
                 Scalar::F64(Double { pattern, text })
             }

@@ -1,12 +1,8 @@
-use Rattle.std.proofs.Common.{rules}
-use Rattle.blocks.proofs.Runs.{said-hit, said_miss, said-none}
+use Rattle.std.proofs.Common.{◌≡◌, true, false, arith, rules, tests}
+use Rattle.std.proofs.lemmas.Iterator.{YieldsList-from_range, cases_from_any}
+use Rattle.blocks.specs.Faults.{resource_key}
+use Rattle.blocks.proofs.Runs.{said_any}
 use Rattle.blocks.proofs.rows.is_said.Goals as goal
 
-pub returns-then-is_resource_key : goal.returns-then-is_resource_key
-returns-then-is_resource_key c = search (rules, said-hit)
-
-pub loop-j-preserved : goal.loop-j-preserved
-loop-j-preserved c = search (rules, said_miss)
-
 pub returns : goal.returns
-returns c = let n = said-none c.args.block.now c.args.key.now in search rules
+returns c = said_any c.args.block.now c.args.key.now c.args.i _ (cases_from_any _ _ _ (λ j. resource_key c.args.block.now c.args.key.now j ≡ true) (λ j. resource_key c.args.block.now c.args.key.now j ≡ false) c.any.ensures.ran (YieldsList-from_range 0 c.args.i c.args.i (cc) (omega arith)) (λ j q k. search (rules, tests)) (λ j q k. search (rules, tests)))

@@ -1,26 +1,13 @@
-use Rattle.std.proofs.Common.{◌≡◌, ◌-◌, length, ap, arith}
-use mir.Val.{bool_byte}
+use Rattle.std.proofs.Common.{refl, ◌∙◌, rules, tests}
+use Rattle.std.proofs.lemmas.Iterator.{YieldsList-from_range}
+use Rattle.std.proofs.lemmas.Iterator.Consumers.{count_from_yields_List, YieldsList-from_filter}
 use Rattle.blocks.specs.Lists.{list_number}
-use Rattle.blocks.specs.Places.{is_of}
-use Rattle.blocks.proofs.Sought.{count-more, count-few, places-none}
+use Rattle.blocks.specs.Places.{is_of, places_of}
 use Rattle.blocks.proofs.Projected.{length-list}
 use Rattle.blocks.proofs.search.count_in.Goals as goal
 
-pub overflow_add-n : goal.overflow_add-n
-overflow_add-n c =
-    let m = count-more c.args.block.now (list_number c.args.list) c.loop-i.i c.args.run.to (omega arith) in
-    let f = count-few c.args.block.now (list_number c.args.list) (c.args.run.to - c.args.run.from) c.args.run.from in
-    let e : bool_byte c.is_in.result ≡ bool_byte (is_of c.args.block.now (list_number c.args.list) c.loop-i.i) = ap bool_byte c.is_in.ensures in
-    omega arith
-
-pub loop-i-preserved : goal.loop-i-preserved
-loop-i-preserved c =
-    let m = count-more c.args.block.now (list_number c.args.list) c.loop-i.i c.args.run.to (omega arith) in
-    let e : bool_byte c.is_in.result ≡ bool_byte (is_of c.args.block.now (list_number c.args.list) c.loop-i.i) = ap bool_byte c.is_in.ensures in
-    omega arith
-
 pub returns : goal.returns
+unfolding places_of
 returns c =
-    let e = ap length (places-none c.args.block.now (list_number c.args.list) c.loop-i.i c.args.run.to (omega arith)) in
-    let l = length-list c.args.block.now (list_number c.args.list) c.args.run.from (c.args.run.to - c.args.run.from) in
-    omega arith
+    count_from_yields_List c.filter.result _ c.count.ensures.ran (YieldsList-from_filter _ (is_of c.args.block.now (list_number c.args.list)) (YieldsList-from_range _ _ _ (cc) refl) c.filter.ensures.closure (λ x b q k. search (rules, tests)))
+    ∙ length-list c.args.block.now (list_number c.args.list) c.args.run.start _

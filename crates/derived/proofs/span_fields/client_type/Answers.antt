@@ -2,4 +2,4 @@ use Rattle.derived.proofs.Types.{by-database}
 use Rattle.derived.proofs.span_fields.client_type.Goals as goal
 
 pub returns : goal.returns
-returns g c = by-database _ _ _ _ _ _ _ c.get_res_span_attributes-n.ensures.len c.get_res_span_attributes-n.ensures.text c.if-n-eq0.false c.front.ensures.text c.check_db_type-span_type.ensures.text c.place-2.ensures
+returns g c = by-database _ _ _ _ _ _ _ c.get_res_span_attributes-n.ensures.len c.get_res_span_attributes-n.ensures.text c.if-n-eq0.false c.front.ensures c.check_db_type-span_type.ensures.text c.place-2.ensures

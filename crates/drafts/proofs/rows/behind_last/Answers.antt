@@ -10,16 +10,13 @@ use Rattle.drafts.proofs.rows.behind_last.Goals as goal
 pub loop-i-init : goal.loop-i-init
 loop-i-init c = (omega arith, count_none c.args.m.now (list_number c.args.list) _ (omega arith))
 
-pub returns-then-list_at-number : goal.returns-then-list_at-number
-returns-then-list_at-number c =
+pub returns-then-list_at-from-clause-some : goal.returns-then-list_at-from-clause-some
+returns-then-list_at-from-clause-some c j h =
     let lt : c.loop-i.i - 1 < rows_in c.args.m.now = omega arith in
     let e : list_in c.args.m.now (c.loop-i.i - 1) ≡ list_number c.args.list = search rules in
     let z = count-here c.args.m.now (list_number c.args.list) (c.loop-i.i - 1) lt e in
-    record {
-      within = c.loop-i.invariant.0;
-      none = c.loop-i.invariant.1;
-      some = λ j h. let y = count-from (list_number c.args.list) (row_facts c.args.m.now) j (c.loop-i.i - 1) (omega arith) in omega arith;
-    }
+    let y = count-from (list_number c.args.list) (row_facts c.args.m.now) j (c.loop-i.i - 1) (omega arith) in
+    omega arith
 
 pub loop-i-preserved : goal.loop-i-preserved
 loop-i-preserved c =

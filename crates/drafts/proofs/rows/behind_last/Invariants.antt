@@ -7,6 +7,3 @@ use Rattle.drafts.proofs.rows.behind_last.Given as goal
 
 abbrev pub invariant-loop-i : goal.invariant-loop-i
 invariant-loop-i l = (l.i ≤ rows_in l.m) × (count (list_number l.list) (drop l.i (row_facts l.m)) ≡ 0)
-
-abbrev pub decreases-loop-i : goal.decreases-loop-i
-decreases-loop-i l = l.i

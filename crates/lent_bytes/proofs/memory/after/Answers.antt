@@ -1,12 +1,8 @@
 use Rattle.std.proofs.Common.{rules}
-use Rattle.std.proofs.lemmas.List.{take_rest, drop_all}
+use Rattle.std.proofs.lemmas.List.{take_rest, drop_min}
 use Rattle.lent_bytes.specs.Memory.{rest}
 use Rattle.lent_bytes.proofs.memory.after.Goals as goal
 
-pub returns-then-n-m : goal.returns-then-n-m
+pub returns : goal.returns
 unfolding rest
-returns-then-n-m c = search (rules, take_rest)
-
-pub returns-else-n-m : goal.returns-else-n-m
-unfolding rest
-returns-else-n-m c = search (rules, drop_all)
+returns c = search (rules, take_rest, drop_min)

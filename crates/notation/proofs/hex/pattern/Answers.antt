@@ -1,5 +1,5 @@
-use Rattle.std.proofs.Common.{sym, ◌∙◌, arith}
-use Rattle.notation.proofs.Numerals.{room-more, room_fits, number_more, number-none, number_end, pattern_number}
+use Rattle.std.proofs.Common.{rules, sym, ◌∙◌, arith}
+use Rattle.notation.proofs.Numerals.{room-more, room_fits, number_more, number-none, pattern_number}
 use Rattle.notation.proofs.hex.pattern.Goals as goal
 
 pub overflow_mul-number : goal.overflow_mul-number
@@ -20,9 +20,5 @@ overflow_add-number c =
 pub loop-b-preserved : goal.loop-b-preserved
 loop-b-preserved c =
     let m = number_more c.loop-b.number c.loop-b.b-index c.args.digits.now c.in_ok-number.field-0 c.loop-b-test.true (sym c.in_ok-number.ensures.value) in
-    (room-more c.loop-b.number c.loop-b.b-index c.in_ok-number.field-0 c.loop-b.invariant.0 c.in_ok-number.ensures.bound, sym m ∙ c.loop-b.invariant.1)
-
-pub returns : goal.returns
-returns c =
-    let e = number_end c.loop-b.number c.loop-b.b-index c.args.digits.now (omega arith) in
-    sym (pattern_number c.args.digits.now c.if-digits-ne16.false ∙ (sym c.loop-b.invariant.1 ∙ e))
+    let r = room-more c.loop-b.number c.loop-b.b-index c.in_ok-number.field-0 c.loop-b.invariant.0 c.in_ok-number.ensures.bound in
+    (omega (arith, r), search rules)

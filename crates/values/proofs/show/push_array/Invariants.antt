@@ -1,5 +1,5 @@
 use Rattle.std.proofs.Common.{◌≡◌, ℕ, List, ◌++◌, map, length}
-use Rattle.lent_bytes.specs.Memory.{Pushed}
+use Rattle.lent_bytes.specs.Writing.{Wrote}
 use Rattle.values.specs.Format.{elements_in}
 use Rattle.values.specs.Shown.{atom_text, listed}
 use Rattle.values.proofs.show.push_array.Given as goal
@@ -8,7 +8,7 @@ use Rattle.values.proofs.show.push_array.Given as goal
 abbrev pub invariant-loop-element : goal.invariant-loop-element
 invariant-loop-element l =
     (t : List ℕ)
-    × Pushed l.initial.out l.initial.at t l.at l.out
+    × Wrote l.initial.out l.out t
     × (t ++ listed l.first (map (atom_text l.quotes) (elements_in l.kind l.left)) ≡ listed l.initial.first (map (atom_text l.quotes) (elements_in l.kind l.initial.left)))
 
 abbrev pub decreases-loop-element : goal.decreases-loop-element

@@ -1,9 +1,9 @@
-use Rattle.lent_bytes.proofs.Clips.{pushed_more}
+use Rattle.lent_bytes.proofs.Writers.{wrote_more}
 use Rattle.std.proofs.Common.{rules}
 use Rattle.values.proofs.show.push_quoted.Goals as goal
 
 pub returns : goal.returns
 returns c =
-    let p = pushed_more _ _ _ _ _ _ _ _ c.push-n.ensures c.push-n-2.ensures in
-    let q = pushed_more _ _ _ _ _ _ _ _ p c.push-2.ensures in
+    let p = wrote_more _ _ _ _ _ c.push-2.ensures c.push-3.ensures in
+    let q = wrote_more _ _ _ _ _ p c.push-4.ensures in
     search rules

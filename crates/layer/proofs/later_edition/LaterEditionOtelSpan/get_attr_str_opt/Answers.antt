@@ -4,7 +4,7 @@ use Rattle.layer.proofs.later_edition.LaterEditionOtelSpan.get_attr_str_opt.Goal
 pub put_earlier-requires : goal.put_earlier-requires
 put_earlier-requires g c = read-filled _ _ _ c.in_ok-n.ensures.size c.in_ok-n.ensures.text
 
-pub returns-then-is_database_key : goal.returns-then-is_database_key
-returns-then-is_database_key g c =
-    let p = of_span _ _ _ _ _ _ c.if-is_database_key.ensures c.in_ok-n.ensures.size c.in_ok-n.ensures.text c.put_earlier.ensures in
+pub returns : goal.returns
+returns g c =
+    let p = of_span c.args.key.idx _ _ _ _ _ c.in_ok-n.ensures.size c.in_ok-n.ensures.text c.put_earlier.ensures in
     record { size = p.0; text = p.1 }

@@ -1,6 +1,0 @@
-use Rattle.std.proofs.Common.{rules}
-use Rattle.readers.proofs.Fronts.{portion-padded}
-use Rattle.derived.proofs.operation_name.lower_first.Goals as goal
-
-pub returns : goal.returns
-returns g c = search (rules, portion-padded)

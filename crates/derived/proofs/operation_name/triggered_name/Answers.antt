@@ -1,6 +1,0 @@
-use Rattle.std.proofs.Common.{◌++◌, codes}
-use Rattle.derived.proofs.Names.{offered}
-use Rattle.derived.proofs.operation_name.triggered_name.Goals as goal
-
-pub returns : goal.returns
-returns g c = offered (λ s. s ++ codes ".invoke") _ _ _ _ _ c.lower_text-trigger.ensures.text c.if-is_empty.ensures c.compose.ensures

@@ -1,6 +1,0 @@
-use Rattle.drafts.specs.Calls.{opening_of}
-use Rattle.drafts.proofs.Started.{head_is}
-use Rattle.drafts.proofs.start.header.Goals as goal
-
-pub returns : goal.returns
-returns c = let h = head_is (opening_of c.args.start.now) in cc

@@ -1,4 +1,0 @@
-mod Encodings
-mod Pieces
-mod Numerals
-mod Readings

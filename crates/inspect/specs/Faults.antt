@@ -1,8 +1,0 @@
--- Refusals, beside want of memory.
-use Rattle.std.specs.Prelude.{◌≡◌, ◌⊎◌}
-use Rattle.inspect.specs.declared.fault.LineFault.{LineFault}
-use Rattle.inspect.specs.declared.fault.LineFault.TheVariants.{NoMemory}
-
--- there was no memory, or P holds
-abbrev pub OrMemory : LineFault → Type 0 → Type 0
-OrMemory f P = (f ≡ NoMemory) ⊎ P

@@ -1,6 +1,0 @@
-use Rattle.std.proofs.Common.{◌≡◌, drop}
-use Rattle.readers.specs.Texts.{places_of, first_span_text}
-use Rattle.readers.proofs.otel_util.get_span_attributes.Given as goal
-
-abbrev pub invariant-loop-key : goal.invariant-loop-key
-invariant-loop-key g l = first_span_text (g.S.OtelSpan.reading l.span) (places_of l.attributes) ≡ first_span_text (g.S.OtelSpan.reading l.span) (places_of (drop l.key-index l.attributes))
