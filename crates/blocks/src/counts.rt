@@ -7,7 +7,7 @@ ghost use Rattle.blocks.specs.Faults.{owns, counted, counted_all, list_fault_by,
 use crate::limits::LIST_ROWS;
 use crate::lists::List;
 
-/// The counts, list by list.
+/// The counts, list by list, in memory of a fixed size that the enum's numbers index.
 pub(crate) type Counts = [u32; 7];
 
 const LISTS: [List; 7] = [

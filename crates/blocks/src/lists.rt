@@ -67,7 +67,8 @@ impl From<PlainList> for List {
     }
 }
 
-/// What has attributes of its own: they stand behind it and above the next of its list.
+/// What has attributes of its own: they stand behind it and above the next of its list. Of its two lists each is a
+/// question of its own: a pair would be taken apart at every call.
 #[derive(Clone, Copy, PartialEq, Eq, Debug)]
 pub enum Owner {
     Event,

@@ -1,5 +1,6 @@
 //! The six fields of a Datadog span that are derived from a reading. Datadog's own attributes come
-//! before what the other attributes say.
+//! before what the other attributes say. A reader, a key and memory go together only through the three functions below,
+//! which differ in what they do without the attribute.
 ghost use Rattle.std.specs.Prelude.{◌≡◌, ℕ, ◌<◌, ◌≤◌, List, length};
 ghost use Rattle.std.specs.Fn.{FnOnceReturnsAtMut};
 ghost use Rattle.std.specs.Option.{MatchOption};

@@ -79,6 +79,7 @@ fn check_list(list: u8) -> Result<List, Refusal>
     ensures fault { result_err result ≡ list_refusal list }
     ensures list { IfOk result (λ l. list_number l ≡ list) }
 {
+    // Two of the lists are refused besides, so this is no `map_err`.
     match List::try_from(list) {
         Err(_) | Ok(List::Event | List::Link) => Err(Refusal::List),
         Ok(list) => Ok(list),

@@ -47,7 +47,8 @@ fn next(n: u16, list: u8, run: List) -> u16
     if list == u8::from(run) { n + 1 } else { n }
 }
 
-/// How many rows of a list there are: of the attributes of events and links, behind the newest owner.
+/// How many rows of a list there are: of the attributes of events and links, behind the newest owner. A `for`, since an
+/// owner's row begins the count anew.
 pub(crate) fn count_rows(m: &[u8], list: List) -> u16
     ensures { result ≡ above m.now (list_number list) (rows_in m.now) }
 {

@@ -9,6 +9,7 @@ use crate::checks::check_text;
 use crate::opening::Checked;
 use crate::refusal::StartFault;
 use blocks::faults::TextFault;
+use blocks::limits::{LEAST, MOST};
 
 /// What is said of a span when its draft starts: how many rows there is room for, the number of its kind as
 /// it was sent, its ids, its start in nanoseconds since 1970, and its texts.
@@ -43,8 +44,8 @@ fn check_texts<'s, 't>(start: &'s Start<'t>) -> Result<Checked<'s, 't>, TextFaul
 fn is_memory(memory_len: usize, rows: u16) -> bool
     ensures { result ≡ start_memory memory_len rows }
 {
-    memory_len >= 120
-        && memory_len <= 65536
+    memory_len >= LEAST
+        && memory_len <= MOST
         && rows <= 1024
         && 120 + 24 * rows as usize <= memory_len
 }

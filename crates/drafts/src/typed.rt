@@ -31,7 +31,7 @@ impl<'a> Draft<'a> {
         let kind = u8::from(ValueKind::Scalar(ScalarKind::F64));
         let Double { pattern, text } = double;
         if text.len() > DOUBLE_TEXT {
-            // no double has such a text, and none is empty
+            // No double has such a text, and none is empty
             return self.set(u8::from(list), key, kind, b"");
         }
         let mut value = [0; 8 + DOUBLE_TEXT];

@@ -35,10 +35,10 @@ fn print_attribute(
 
 /// Prints what a line says, nothing for an empty line or a comment.
 fn print_line(rt: &HostRuntime, line: Line<'_>, tally: &mut Tally) -> io::Result<()> {
-    let text = line.text.trim_ascii_start();
-    if text.is_empty() || text.starts_with(b"#") {
+    if line.says_nothing() {
         return Ok(());
     }
+    let text = line.text.trim_ascii_start();
     let line = line.number;
     match Attribute::parse(rt.alloc(), text) {
         Ok(attribute) => print_attribute(rt, line, &attribute, tally),

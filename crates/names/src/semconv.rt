@@ -1,4 +1,4 @@
-//! The names of the conventions that the conversion reads and writes.
+//! The names of the conventions that the conversion reads and writes, as constants and in a list, as in the source.
 ghost use Rattle.std.specs.Prelude.{◌≡◌, map};
 ghost use Rattle.names.specs.Conventions.{convention_names, sampling_rate_name};
 

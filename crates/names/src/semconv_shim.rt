@@ -1,4 +1,4 @@
-//! The names of the database systems, which the list of the conventions lacks.
+//! The names of the database systems, which the list of the conventions lacks, as constants and in a table.
 ghost use Rattle.std.specs.Prelude.{◌≡◌, map};
 ghost use Rattle.lent_bytes.specs.Lookup.{index_from};
 ghost use Rattle.names.specs.Conventions.{database_names};

@@ -1,5 +1,5 @@
 -- Bytes cut at a byte.
-use Rattle.std.specs.Prelude.{◌≡◌, ℕ, ◌<◌, List, ◌∷◌, ◌++◌, length, Some, None, Option, ◌≢◌, slice_index}
+use Rattle.std.specs.Prelude.{◌≡◌, ℕ, ◌<◌, Bool, true, List, [], ◌∷◌, ◌++◌, ◌==◌, length, Some, None, Option, ◌≢◌, slice_index}
 use Rattle.std.specs.Borrow.{Bor}
 
 -- no byte of xs is b
@@ -10,3 +10,8 @@ Lacks b xs = (k : ℕ) → k < length xs → slice_index xs k ≢ b
 abbrev pub Joins : ℕ → List ℕ → List ℕ → Option (Bor (List ℕ)) → Type 0
 Joins b xs front None = front ≡ xs
 Joins b xs front (Some rest) = (xs ≡ front ++ b ∷ rest.now) × (length rest.now < length xs)
+
+-- nothing, or a comment, which begins with #
+abbrev pub is_no_content : List ℕ → Bool
+is_no_content [] = true
+is_no_content (x ∷ xs) = x == 35

@@ -1,7 +1,8 @@
 //! Bytes cut at a byte: into lines, words and elements.
-ghost use Rattle.std.specs.Prelude.{◌≡◌, ℕ, ◌<◌, ◌≤◌, length, ◌≢◌, slice_index};
-ghost use Rattle.notation.specs.Cuts.{Lacks, Joins};
+ghost use Rattle.std.specs.Prelude.{◌≡◌, ℕ, List, ◌<◌, ◌≤◌, length, ◌≢◌, slice_index};
+ghost use Rattle.notation.specs.Cuts.{Lacks, Joins, is_no_content};
 ghost use Rattle.std.specs.Iterator.{at_most};
+ghost use Rattle.std.specs.Str.{IsTrimAsciiStart};
 
 /// What stands before the first `b`, and what follows it, if there is one.
 pub fn cut(text: &[u8], b: u8) -> (&[u8], Option<&[u8]>)
@@ -25,6 +26,18 @@ pub fn word(text: &[u8]) -> (&[u8], &[u8]) {
 pub struct Line<'a> {
     pub number: u64,
     pub text: &'a [u8],
+}
+
+impl Line<'_> {
+    /// Whether it says nothing: it is empty or a comment.
+    pub fn says_nothing(&self) -> bool
+        ensures { (rest : List ℕ) × IsTrimAsciiStart self.now.text.now rest × (result ≡ is_no_content rest) }
+    {
+        match self.text.trim_ascii_start().first() {
+            Some(first) => *first == b'#',
+            None => true,
+        }
+    }
 }
 
 /// The lines that are left; the last one may lack its newline.

@@ -1,5 +1,5 @@
-//! What the programs' texts have in common: lines, words, hex digits, values as they are written, the names of
-//! kinds, and how a line's outcome is printed and counted.
+//! What the programs' texts have in common: lines, words, hex digits, values as they are written, which kind
+//! a word names, and how a line's outcome is printed and counted.
 #![tactic(auto)]
 
 pub mod cut;

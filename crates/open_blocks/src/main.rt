@@ -63,10 +63,10 @@ fn open_line(
     line: Line<'_>,
     tally: &mut Tally,
 ) -> anyhow::Result<()> {
-    let text = line.text.trim_ascii();
-    if text.is_empty() || text.starts_with(b"#") {
+    if line.says_nothing() {
         return Ok(());
     }
+    let text = line.text.trim_ascii();
     let line = line.number;
     match read_bytes(rt.alloc(), text) {
         Ok(block) => {

@@ -23,10 +23,10 @@ fn print_span(rt: &HostRuntime, span: &SdkSpan<'_>) -> anyhow::Result<()> {
 
 /// Reads the span of a line; nothing for an empty line or a comment.
 fn read_line(rt: &HostRuntime, line: Line<'_>) -> anyhow::Result<()> {
-    let text = line.text.trim_ascii();
-    if text.is_empty() || text.starts_with(b"#") {
+    if line.says_nothing() {
         return Ok(());
     }
+    let text = line.text.trim_ascii();
     let number = line.number;
     match read_bytes(rt.alloc(), text) {
         Ok(block) => match open(block.as_slice()) {

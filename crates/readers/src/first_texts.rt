@@ -38,7 +38,8 @@ impl Side for OnResource {
     }
 }
 
-/// The first text under the keys that is not empty.
+/// The first text under the keys that is not empty. A `for`, since each turn writes to the same memory. The two calls
+/// below hand on what they are given.
 fn first_on<T: Side, S: OtelSpan>(
     span: &S,
     attributes: &[AttributeKey],

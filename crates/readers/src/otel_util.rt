@@ -62,7 +62,8 @@ fn res_span_attribute<S: OtelSpan>(
     }
 }
 
-/// The first text under the keys: of the resource unless empty, then of the span even if empty.
+/// The first text under the keys: of the resource unless empty, then of the span even if empty. A `for`, since each turn
+/// writes to the same memory.
 pub fn get_res_span_attributes<S: OtelSpan>(
     span: &S,
     attributes: &[AttributeKey],

@@ -21,7 +21,7 @@ impl<'t> Text<'t> {
         Text { bytes: b"" }
     }
 
-    /// The first `n` bytes of a reader's memory.
+    /// The first `n` bytes of a reader's memory, which is of a fixed size: nothing is allocated.
     pub fn front(memory: &'t [u8; 4096], n: usize) -> Text<'t>
         ensures { result.bytes.now ≡ portion memory.now 0 n }
     {
