@@ -11,7 +11,8 @@ use Rattle.drafts.specs.Search.{place_from}
 use Rattle.drafts.specs.Writes.{rowed, valued}
 use Rattle.block_laws.proofs.Kept.{narrow, portion-whole}
 use Rattle.block_laws.proofs.Sound.{Sound, Step, offset_step, text-step, text-lawful-step, list-step, key_step, above_step}
-use Rattle.block_laws.proofs.Listed.{length-rows, get_or-rows, rows_replace}
+use Rattle.block_laws.proofs.Listed.{rows_replace}
+use Rattle.blocks.proofs.Projected.{length-rows, get_or-rows}
 use Rattle.draft_law.proofs.Rowed.{Fit, rowed-fixed, rowed-front, rowed-step, is_row, text_stands}
 use Rattle.draft_law.proofs.Octets.{bytes-row}
 use Rattle.draft_law.proofs.Tagged.{row_from, put, put_some, Placed}

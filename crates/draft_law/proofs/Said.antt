@@ -15,7 +15,8 @@ use Rattle.drafts.specs.Search.{hit, place_from}
 use Rattle.drafts.specs.Writes.{row_bytes, rowed, new_row}
 use Rattle.block_laws.proofs.Kept.{Kept, byte_kept, narrow, portion_first, portion_second, portion-none}
 use Rattle.block_laws.proofs.Sound.{Sound, Step, Head, head_80, head_88, head_96, head_104, head_112, offset_step, kind-step, list-step, key_step, above_step, sound-step}
-use Rattle.block_laws.proofs.Listed.{length-rows, get_or-rows, rows_append}
+use Rattle.block_laws.proofs.Listed.{rows_append}
+use Rattle.blocks.proofs.Projected.{length-rows, get_or-rows}
 use Rattle.draft_law.proofs.Rowed.{Fit, rowed-fixed, rowed-front, rowed-step, is_row, text_stands}
 use Rattle.draft_law.proofs.Octets.{bytes_append, bytes-written, bytes-two, bytes-four, bytes-row}
 use Rattle.draft_law.proofs.Tagged.{row_from, none-hit}
