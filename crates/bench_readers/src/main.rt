@@ -62,7 +62,8 @@ fn put_row(m: &mut [u8], i: u16, row: At) {
     row.value.put(m, at + 12);
 }
 
-/// Writes the block, and answers its length.
+/// Writes the block, and answers its length. Its rows share two keys and are no rows of `bench_blocks`, whose keys all
+/// differ.
 fn put_block(m: &mut [u8], shape: Shape) -> usize {
     let others = shape.others.min(1000);
     let rows = others + 2;

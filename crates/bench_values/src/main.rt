@@ -47,6 +47,7 @@ const CASES: [Case; 5] = [
 
 const SIZES: [usize; 4] = [64, 512, 4096, 32768];
 
+/// `unit` over and over up to a size. inspect repeats a count of times, up to a limit of its own, with its own faults.
 fn repeated(heap: Global, unit: &[u8], size: usize) -> Result<Vec<u8>, AllocError> {
     let mut v = Vec::new(heap);
     for _ in 0..size / unit.len().max(1) {
