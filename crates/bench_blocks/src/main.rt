@@ -6,7 +6,8 @@ use blocks::lists::List;
 use blocks::sdk_span::open;
 use lent_bytes::fields::Number;
 use lent_bytes::memory::{part, write};
-use timing::{PerByte, measure};
+use std::time::Instant;
+use timing::{PerByte, nanos_a_turn};
 
 /// A block of so many attributes in each of its three plain lists, with keys of equal length that
 /// differ in their last two bytes alone, so that each comparison goes to the end.
@@ -86,9 +87,9 @@ fn print_shape(rt: &HostRuntime, shape: Shape) -> anyhow::Result<()> {
     let mut memory = vec![in rt.alloc(); 0u8; 65536]?;
     let bytes = put_block(&mut memory[..], shape);
     let block = part(&memory[..], 0, bytes);
-    let opened = measure(rt, TURNS, || times_accepted(block))?;
-    let accepted = opened.answer;
-    let nanos = opened.nanos;
+    let start = Instant::now(rt)?;
+    let accepted = times_accepted(block);
+    let nanos = nanos_a_turn(start.elapsed(rt)?, TURNS);
     let name = shape.name;
     let rows = shape.each as u32 * 3;
     println!(rt; "{name:<6} {bytes:>6} bytes, {rows:>3} rows: accepted {accepted} times")?;

@@ -6,7 +6,8 @@ use blocks::lists::List;
 use drafts::draft::Draft;
 use drafts::refusal::answer_number;
 use drafts::start::Start;
-use timing::measure;
+use std::time::Instant;
+use timing::nanos_a_turn;
 use values::value::Scalar;
 
 /// A draft with so many events of so many attributes each, with keys of two bytes.
@@ -86,10 +87,10 @@ fn print_list(
     list: List,
     name: &str,
 ) -> anyhow::Result<()> {
-    let set = measure(rt, TURNS, || times_applied(draft, list, b"last.profile"))?;
-    let applied = set.answer;
+    let start = Instant::now(rt)?;
+    let applied = times_applied(draft, list, b"last.profile");
+    let nanos = nanos_a_turn(start.elapsed(rt)?, TURNS);
     let list = u8::from(list);
-    let nanos = set.nanos;
     println!(rt; "{name:<6} list {list}: applied {applied} times")?;
     eprintln!(rt; "{name:<6} list {list}: {nanos:>7} ns a set")?;
     Ok(())

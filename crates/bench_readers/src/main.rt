@@ -12,7 +12,8 @@ use lent_bytes::memory::{part, write};
 use names::attribute_keys::{DB_STATEMENT, DB_SYSTEM, attribute_keys};
 use readers::otel_util::OtelSpan;
 use span_args::span_extract_args::SpanExtractArgs;
-use timing::measure;
+use std::time::Instant;
+use timing::nanos_a_turn;
 
 /// A block of a client: so many rows of unknown keys, half of them the resource's, and below them the
 /// database and a statement of so many bytes.
@@ -168,18 +169,20 @@ fn print_shape(rt: &HostRuntime, shape: Shape) -> anyhow::Result<()> {
     let span = SdkSpan::of_ended(part(&memory[..], 0, len));
     let name = shape.name;
     println!(rt; "{name}: {len} bytes")?;
-    let noted = measure(rt, TURNS, || times_noted(&span))?;
-    println!(rt; "  noted the rows of both keys {} times", noted.answer)?;
+    let start = Instant::now(rt)?;
+    let noted = times_noted(&span);
+    let note = nanos_a_turn(start.elapsed(rt)?, TURNS);
+    println!(rt; "  noted the rows of both keys {noted} times")?;
     let reader = SpanExtractArgs::new(&span);
-    let read = measure(rt, TURNS, || times_read(&reader))?;
-    let derived = measure(rt, TURNS, || times_derived(&reader))?;
-    println!(rt;
-        "  texts of {} bytes, fields of {}",
-        read.answer, derived.answer
-    )?;
+    let start = Instant::now(rt)?;
+    let texts = times_read(&reader);
+    let read = nanos_a_turn(start.elapsed(rt)?, TURNS);
+    let start = Instant::now(rt)?;
+    let fields = times_derived(&reader);
+    let derive = nanos_a_turn(start.elapsed(rt)?, TURNS);
+    println!(rt; "  texts of {texts} bytes, fields of {fields}")?;
     eprintln!(rt;
-        "{name:<6} {len:>6} bytes: rows noted in {:>7} ns, all 86 texts read in {:>7} ns, six fields in {:>7} ns",
-        noted.nanos, read.nanos, derived.nanos
+        "{name:<6} {len:>6} bytes: rows noted in {note:>7} ns, all 86 texts read in {read:>7} ns, six fields in {derive:>7} ns"
     )?;
     Ok(())
 }

@@ -4,7 +4,8 @@
 #![tactic(auto)]
 
 use std::alloc::{AllocError, Global};
-use timing::{PerByte, measure};
+use std::time::Instant;
+use timing::{PerByte, nanos_a_turn};
 use values::check::check;
 use values::kinds::{ScalarKind, ValueKind};
 use values::show::display_text;
@@ -76,9 +77,9 @@ fn work(kind: ValueKind, bytes: &[u8]) -> u64 {
 
 fn print_case(rt: &HostRuntime, case: Case, size: usize) -> anyhow::Result<()> {
     let value = repeated(rt.alloc(), case.unit, size)?;
-    let worked = measure(rt, TURNS, || work(case.kind, &value))?;
-    let sum = worked.answer;
-    let nanos = worked.nanos;
+    let start = Instant::now(rt)?;
+    let sum = work(case.kind, &value);
+    let nanos = nanos_a_turn(start.elapsed(rt)?, TURNS);
     let name = case.name;
     let bytes = value.len();
     println!(rt; "{name:<8} {bytes:>6} bytes: {sum}")?;

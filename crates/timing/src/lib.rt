@@ -1,31 +1,17 @@
 //! How long a piece of work takes, for the programs that measure.
 #![tactic(auto)]
 
-ghost use Rattle.std.specs.Prelude.{◌≡◌, ◌*◌, ◌/◌, ◌^◌, ◌-◌, IfOk, max, min};
+ghost use Rattle.std.specs.Prelude.{◌≡◌, ◌*◌, ◌/◌, ◌^◌, ◌-◌, max, min};
+ghost use Rattle.std.specs.Duration.{as_nanos};
 
-use std::time::Instant;
-use std::{fmt, io};
+use std::fmt;
+use std::time::Duration;
 
-/// What a piece of work answered, and how many nanoseconds one of its turns took.
-#[derive(Clone, Copy)]
-pub struct Timed<T> {
-    pub answer: T,
-    pub nanos: u128,
-}
-
-/// Runs a piece of work of so many turns.
-pub fn measure<T: Drop, F: FnOnce() -> T>(
-    rt: &HostRuntime,
-    turns: u32,
-    work: F,
-) -> io::Result<Timed<T>>
-    requires { F.IsAlwaysCallable work }
-    ensures { IfOk result (λ t. F.post work t.answer) }
+/// The nanoseconds that each of so many turns took, rounded down.
+pub fn nanos_a_turn(took: Duration, turns: u32) -> u128
+    ensures { result ≡ as_nanos took / max turns 1 }
 {
-    let start = Instant::now(rt)?;
-    let answer = work();
-    let nanos = start.elapsed(rt)?.as_nanos() / turns.max(1) as u128;
-    Ok(Timed { answer, nanos })
+    took.as_nanos() / turns.max(1) as u128
 }
 
 /// The tenths of a nanosecond that each of so many bytes took, rounded down.
