@@ -71,7 +71,7 @@ fn texts_and_rows(rt: HostRuntime) -> Result<(), Fail> {
     assert!(rt; span.scope_name() == b"cd".as_slice());
     assert!(rt; span.scope_version() == b"de".as_slice());
     assert!(rt; span.description() == b"ef".as_slice());
-    let Some(row) = span.row(0) else {
+    let Ok(row) = span.row(0) else {
         return Err(Fail::new("no row"));
     };
     assert_eq!(rt; List::try_from(row.list), Ok(List::Resource));
@@ -79,7 +79,7 @@ fn texts_and_rows(rt: HostRuntime) -> Result<(), Fail> {
     assert!(rt; row.key == b"ab".as_slice());
     assert!(rt; row.value == b"defg".as_slice());
     assert_eq!(rt; row.time, 0);
-    assert!(rt; span.row(1).is_none());
+    assert!(rt; span.row(1).is_err());
     Ok(())
 }
 

@@ -1,8 +1,9 @@
-//! Questions on the rows of a span, list by list. Items are counted from 0.
-ghost use Rattle.std.specs.Prelude.{◌≡◌, length};
+//! Questions on the rows of a span, by number and list by list. Items are counted from 0.
+ghost use Rattle.std.specs.Prelude.{◌≡◌, length, if◌then◌else◌, nat_lt, Some, None};
 ghost use Rattle.std.specs.Result.{result_ok};
 ghost use Rattle.std.specs.List.{slice_get};
-ghost use Rattle.blocks.specs.Facts.{row_facts};
+ghost use Rattle.blocks.specs.Facts.{row_facts, row_fact};
+ghost use Rattle.blocks.specs.Layout.{rows_in};
 ghost use Rattle.blocks.specs.Lists.{list_number, plain_number};
 ghost use Rattle.blocks.specs.Projections.{of_list, owned_by, nth_head, nth_count, nth_under};
 ghost use Rattle.blocks.specs.Places.{run_rows};
@@ -17,7 +18,7 @@ use std::ops::Range;
 /// Why a question has no answer.
 #[derive(Clone, Copy, PartialEq, Eq, Debug)]
 pub enum QuestionFault {
-    /// There are not as many attributes, events or links.
+    /// There are not as many rows, attributes, events or links.
     NoSuchItem,
 }
 
@@ -42,6 +43,18 @@ fn item(block: &[u8], list: List, run: Range<u16>, n: u16) -> Result<Row<'_>, Qu
 }
 
 impl<'a> SdkSpan<'a> {
+    /// The row with a number.
+    pub fn row(&self, i: u16) -> Result<Row<'a>, QuestionFault>
+        ensures row { answered_row result ≡ slice_get (row_facts self.now.block.now) i }
+        ensures by_number { answered_row result ≡ (if nat_lt i (rows_in self.now.block.now) then Some (row_fact self.now.block.now i) else None) }
+    {
+        if i < self.row_count() {
+            Ok(row_at(self.block, i))
+        } else {
+            Err(QuestionFault::NoSuchItem)
+        }
+    }
+
     /// How many rows of a list there are, under all owners.
     pub fn count(&self, list: List) -> u16
         ensures { result ≡ length (of_list (list_number list) (row_facts self.now.block.now)) }

@@ -1,17 +1,15 @@
 //! An ended span over its block.
-ghost use Rattle.std.specs.Prelude.{◌≡◌, IfOk, if◌then◌else◌, Some, None, MatchResult, nat_lt};
+ghost use Rattle.std.specs.Prelude.{◌≡◌, IfOk, MatchResult};
 ghost use Rattle.std.specs.Result.{result_err};
-ghost use Rattle.std.specs.Option.{option_map};
 ghost use Rattle.lent_bytes.specs.Fields.{u32_in};
 ghost use Rattle.blocks.specs.Faults.{block_fault};
 ghost use Rattle.blocks.specs.Lawful.{Lawful};
 ghost use Rattle.blocks.specs.Layout.{rows_in};
-ghost use Rattle.blocks.specs.Facts.{facts, header_text, row_fact, fact_of};
+ghost use Rattle.blocks.specs.Facts.{facts, header_text};
 
 use crate::faults::BlockFault;
 use crate::frame::{check_frame, check_texts};
 use crate::layout::text;
-use crate::row::{Row, row_at};
 use crate::rows::check_rows;
 use crate::span_kind::{SpanKind, StatusCode};
 use lent_bytes::fields::{Number, id_at};
@@ -181,12 +179,5 @@ impl<'a> SdkSpan<'a> {
         ensures { result ≡ rows_in self.now.block.now }
     {
         u16::read(self.block, 2)
-    }
-
-    /// The row with a number; none from the number of rows on.
-    pub fn row(&self, i: u16) -> Option<Row<'a>>
-        ensures { option_map fact_of result ≡ (if nat_lt i (rows_in self.now.block.now) then Some (row_fact self.now.block.now i) else None) }
-    {
-        (i < u16::read(self.block, 2)).then(|| row_at(self.block, i))
     }
 }

@@ -40,7 +40,7 @@ pub(crate) fn run_under(block: &[u8], owner: Owner, n: u16) -> Option<Range<u16>
 {
     let list = owner.list();
     let rows = u16::read(block, 2);
-    let from = find(block, list, 0..rows, n)? + 1;
+    let from = find(block, list, all(block), n)? + 1;
     let to = find(block, list, from..rows, 0).unwrap_or(rows);
     Some(from..to)
 }

@@ -135,8 +135,8 @@ fn put_owners(m: &mut [u8]) {
 fn has_row(m: &[u8], i: u16, kind: u8, value: &[u8]) -> bool {
     match open(m) {
         Ok(span) => match span.row(i) {
-            Some(row) => row.kind == kind && row.value == value,
-            None => false,
+            Ok(row) => row.kind == kind && row.value == value,
+            Err(_) => false,
         },
         Err(_) => false,
     }

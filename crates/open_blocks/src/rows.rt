@@ -71,7 +71,7 @@ fn print_row(rt: &HostRuntime, number: u16, row: Row<'_>) -> anyhow::Result<()> 
 pub fn print_rows(rt: &HostRuntime, span: SdkSpan<'_>) -> anyhow::Result<()> {
     // By number, since it is printed.
     for number in 0..span.row_count() {
-        if let Some(row) = span.row(number) {
+        if let Ok(row) = span.row(number) {
             print_row(rt, number, row)?;
         }
     }

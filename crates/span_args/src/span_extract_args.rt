@@ -103,7 +103,7 @@ fn noted_row<'a>(
     ensures { option_map fact_of result ≡ row_in span.now.block.now (slice_index_or indices.now.places key.idx None) }
 {
     match indices.get(key) {
-        Some(i) if i < span.row_count() as usize => span.row(i as u16),
+        Some(i) if i < span.row_count() as usize => span.row(i as u16).ok(),
         _ => None,
     }
 }
@@ -135,7 +135,7 @@ impl<'a> SpanExtractArgs<'a> {
         let mut res_attrs = AttributeIndices::default();
         // By number, since the number is what is noted.
         for i in 0..span.row_count() {
-            if let Some(row) = span.row(i) {
+            if let Ok(row) = span.row(i) {
                 note_row(&row, i, &mut span_attrs, &mut res_attrs);
             }
         }
