@@ -3,16 +3,38 @@
 //! that, under the layer for the later edition of the conventions.
 #![tactic(auto)]
 
-mod report;
-mod token;
-
-use crate::report::{print_fields, print_keys};
 use blocks::sdk_span::{SdkSpan, open};
 use layer::later_edition::LaterEdition;
+use names::attribute_keys::attribute_keys;
 use notation::cut::{Line, Lines};
 use notation::hex::read_bytes;
+use readers::otel_util::OtelSpan;
+use reading_report::field::{Derived, FIELDS};
+use reading_report::key_line::{KeyLine, KeyTexts};
 use span_args::span_extract_args::SpanExtractArgs;
 use std::io::Read;
+
+/// Prints the known keys that are present, in the order of their table.
+fn print_keys<S: OtelSpan>(rt: &HostRuntime, span: &S) -> anyhow::Result<()> {
+    let mut texts = KeyTexts::new();
+    for key in attribute_keys() {
+        let line = KeyLine::read(span, key, &mut texts);
+        if line.is_present() {
+            println!(rt; "{line}")?;
+        }
+    }
+    Ok(())
+}
+
+/// Prints the six fields of two readers side by side.
+fn print_fields<A: OtelSpan, B: OtelSpan>(rt: &HostRuntime, a: &A, b: &B) -> anyhow::Result<()> {
+    for field in FIELDS {
+        let one = Derived { span: a, field };
+        let other = Derived { span: b, field };
+        println!(rt; "{field} {one} {other}")?;
+    }
+    Ok(())
+}
 
 fn print_span(rt: &HostRuntime, span: &SdkSpan<'_>) -> anyhow::Result<()> {
     let bare = SpanExtractArgs::new(span);
