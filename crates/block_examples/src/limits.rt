@@ -1,10 +1,8 @@
 //! One below, at and above each limit.
-use crate::made::{Placed, put_header, put_row, refusal};
+use crate::made::{NONE, Placed, ROW, put_header, put_row, refusal};
 use lent_bytes::fields::Number;
 use lent_bytes::memory::write;
 use std::test::Fail;
-
-const NONE: u16 = 65535;
 
 #[test]
 fn lengths(rt: HostRuntime) -> Result<(), Fail> {
@@ -59,16 +57,6 @@ fn header_texts(rt: HostRuntime) {
     write(&mut m, 120, b"\xff");
     assert_eq!(rt; refusal(&m), (5, NONE, 1));
 }
-
-// A span attribute of one byte's key and a string of one byte.
-const ROW: Placed = Placed {
-    list: 0,
-    kind: 3,
-    key: 0,
-    key_length: 1,
-    value: 1,
-    value_length: 1,
-};
 
 #[test]
 fn rows_of_a_list(rt: HostRuntime) -> Result<(), Fail> {
