@@ -81,7 +81,8 @@ impl<'a> Draft<'a> {
 
     /// Sets an attribute of the span, the resource or the scope (lists 0, 1 and 2), of the newest event (4)
     /// or of the newest link (6): the value of the row that has its key, or a new row. List and kind are the
-    /// numbers that were sent, since one that names nothing is refused under a number of its own.
+    /// numbers that were sent: a list that no attribute goes to is refused under 20, and a kind that names
+    /// nothing under 8, as any value of a broken form.
     pub fn set(&mut self, list: u8, key: &[u8], kind: u8, value: &[u8]) -> Result<Applied, Refusal>
         ensures { Made self.old self.new (Set list key.now kind value.now) result }
     {
