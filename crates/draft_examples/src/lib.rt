@@ -3,10 +3,18 @@
 
 pub mod callers;
 #[cfg(test)]
+mod full;
+#[cfg(test)]
 mod held;
 #[cfg(test)]
 mod limits;
 #[cfg(test)]
 mod made;
+#[cfg(test)]
+mod order;
+#[cfg(test)]
+mod refused;
+#[cfg(test)]
+mod room;
 #[cfg(test)]
 mod starts;

@@ -1,9 +1,9 @@
-//! Calls at each limit, and the order of their refusals.
-use crate::made::{last_number, set, start_of, text};
+//! Calls at each limit.
+use crate::made::{event, last_number, link, rename, set, start_of, status, text};
 use drafts::call::Call;
 
 fn number(call: Call<'_>) -> u8 {
-    let mut m = [7u8; 3000];
+    let mut m = [7u8; 5000];
     last_number(&mut m, &start_of(4), &[call])
 }
 
@@ -57,8 +57,10 @@ fn values(rt: HostRuntime) {
             value_number(2, b"123456780"),
             value_number(3, b"\xff"),
             value_number(8, b""),
+            value_number(3, text(4096)),
+            value_number(3, text(4097)),
         ],
-        [0, 8, 8, 8, 0, 5, 8]
+        [0, 8, 8, 8, 0, 5, 8, 0, 9]
     );
 }
 
@@ -66,22 +68,10 @@ fn values(rt: HostRuntime) {
 fn events(rt: HostRuntime) {
     assert_eq!(rt;
         [
-            number(Call::Event {
-                title: b"",
-                time: 0,
-            }),
-            number(Call::Event {
-                title: text(255),
-                time: -1,
-            }),
-            number(Call::Event {
-                title: text(256),
-                time: 0,
-            }),
-            number(Call::Event {
-                title: b"\xff",
-                time: 0,
-            }),
+            number(event(b"")),
+            number(event(text(255))),
+            number(event(text(256))),
+            number(event(b"\xff")),
         ],
         [0, 0, 4, 5]
     );
@@ -91,30 +81,12 @@ fn events(rt: HostRuntime) {
 fn links(rt: HostRuntime) {
     assert_eq!(rt;
         [
-            number(Call::Link {
-                trace_state: b"",
-                value: text(24),
-            }),
-            number(Call::Link {
-                trace_state: b"",
-                value: text(25),
-            }),
-            number(Call::Link {
-                trace_state: b"",
-                value: text(26),
-            }),
-            number(Call::Link {
-                trace_state: text(512),
-                value: text(25),
-            }),
-            number(Call::Link {
-                trace_state: text(513),
-                value: text(25),
-            }),
-            number(Call::Link {
-                trace_state: b"\xff",
-                value: b"",
-            }),
+            number(link(b"", 24)),
+            number(link(b"", 25)),
+            number(link(b"", 26)),
+            number(link(text(512), 25)),
+            number(link(text(513), 25)),
+            number(link(b"\xff", 0)),
         ],
         [8, 0, 8, 0, 4, 5]
     );
@@ -124,30 +96,12 @@ fn links(rt: HostRuntime) {
 fn statuses(rt: HostRuntime) {
     assert_eq!(rt;
         [
-            number(Call::Status {
-                code: 0,
-                description: text(2000),
-            }),
-            number(Call::Status {
-                code: 1,
-                description: text(2000),
-            }),
-            number(Call::Status {
-                code: 2,
-                description: text(1024),
-            }),
-            number(Call::Status {
-                code: 2,
-                description: text(1025),
-            }),
-            number(Call::Status {
-                code: 2,
-                description: b"\xff",
-            }),
-            number(Call::Status {
-                code: 3,
-                description: b"",
-            }),
+            number(status(0, text(2000))),
+            number(status(1, text(2000))),
+            number(status(2, text(1024))),
+            number(status(2, text(1025))),
+            number(status(2, b"\xff")),
+            number(status(3, b"")),
         ],
         [1, 0, 0, 4, 5, 24]
     );
@@ -157,146 +111,11 @@ fn statuses(rt: HostRuntime) {
 fn names(rt: HostRuntime) {
     assert_eq!(rt;
         [
-            number(Call::Rename { title: b"" }),
-            number(Call::Rename { title: text(255) }),
-            number(Call::Rename { title: text(256) }),
-            number(Call::Rename { title: b"\xff" }),
+            number(rename(b"")),
+            number(rename(text(255))),
+            number(rename(text(256))),
+            number(rename(b"\xff")),
         ],
         [0, 0, 4, 5]
-    );
-}
-
-// Memory for one row and four bytes of text: exactly full, and a byte more.
-#[test]
-fn room(rt: HostRuntime) {
-    let mut m = [7u8; 148];
-    let start = start_of(1);
-    assert_eq!(rt;
-        [
-            last_number(&mut m, &start, &[set(0, b"k", b"abc")]),
-            last_number(&mut m, &start, &[set(0, b"k", b"abcd")]),
-            last_number(&mut m, &start, &[set(0, b"k", b"a"), set(0, b"k", b"bc")]),
-            last_number(&mut m, &start, &[set(0, b"k", b"a"), set(0, b"k", b"bcd")]),
-            last_number(&mut m, &start, &[Call::Rename { title: b"abcd" }]),
-            last_number(&mut m, &start, &[Call::Rename { title: b"abcde" }]),
-            last_number(
-                &mut m,
-                &start,
-                &[Call::Status {
-                    code: 2,
-                    description: b"abcde",
-                }],
-            ),
-        ],
-        [0, 13, 0, 13, 0, 13, 13]
-    );
-}
-
-// The only row is in use: no other key, but the same one; events and links neither.
-#[test]
-fn rows(rt: HostRuntime) {
-    let mut m = [7u8; 300];
-    let start = start_of(1);
-    let first = set(0, b"k", b"v");
-    assert_eq!(rt;
-        [
-            last_number(&mut m, &start, &[first, set(0, b"l", b"v")]),
-            last_number(&mut m, &start, &[first, set(1, b"k", b"v")]),
-            last_number(&mut m, &start, &[first, set(0, b"k", b"w")]),
-            last_number(
-                &mut m,
-                &start,
-                &[
-                    first,
-                    Call::Event {
-                        title: b"e",
-                        time: 1,
-                    },
-                ],
-            ),
-            last_number(
-                &mut m,
-                &start,
-                &[
-                    first,
-                    Call::Link {
-                        trace_state: b"",
-                        value: text(25),
-                    },
-                ],
-            ),
-        ],
-        [23, 23, 0, 23, 23]
-    );
-}
-
-// List, owner, key, value, rows, room: the first refusal is answered.
-#[test]
-fn order(rt: HostRuntime) {
-    let mut m = [7u8; 120];
-    let start = start_of(0);
-    let bad = Call::Set {
-        list: 3,
-        key: b"",
-        kind: 9,
-        value: b"\xff",
-    };
-    assert_eq!(rt;
-        [
-            last_number(&mut m, &start, &[bad]),
-            last_number(&mut m, &start, &[set(4, b"", b"\xff")]),
-            last_number(&mut m, &start, &[set(0, b"", b"\xff")]),
-            last_number(&mut m, &start, &[set(0, b"k", b"\xff")]),
-            last_number(&mut m, &start, &[set(0, b"k", b"v")]),
-            last_number(
-                &mut m,
-                &start,
-                &[Call::Event {
-                    title: text(256),
-                    time: 0,
-                }],
-            ),
-            last_number(
-                &mut m,
-                &start,
-                &[Call::Event {
-                    title: b"e",
-                    time: 0,
-                }],
-            ),
-            last_number(
-                &mut m,
-                &start,
-                &[Call::Link {
-                    trace_state: b"\xff",
-                    value: b"",
-                }],
-            ),
-            last_number(
-                &mut m,
-                &start,
-                &[Call::Link {
-                    trace_state: b"",
-                    value: b"",
-                }],
-            ),
-            last_number(
-                &mut m,
-                &start,
-                &[Call::Status {
-                    code: 3,
-                    description: text(2000),
-                }],
-            ),
-            last_number(
-                &mut m,
-                &start,
-                &[Call::Status {
-                    code: 2,
-                    description: b"d",
-                }],
-            ),
-        ],
-        [20, 21, 7, 5, 23, 4, 23, 5, 8, 24, 13]
     );
 }

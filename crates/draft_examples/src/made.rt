@@ -5,11 +5,18 @@ use drafts::refusal::answer_number;
 use drafts::start::Start;
 use lent_bytes::memory::part;
 
-static LONG: [u8; 2000] = [b'a'; 2000];
+static LONG: [u8; 5000] = [b'a'; 5000];
 
-/// A text of `n` bytes, at most 2,000.
+static BROKEN: [u8; 5000] = [0xff; 5000];
+
+/// A text of `n` bytes, at most 5,000.
 pub fn text(n: usize) -> &'static [u8] {
     part(&LONG, 0, n)
+}
+
+/// `n` bytes that are not UTF-8, at most 5,000.
+pub fn broken(n: usize) -> &'static [u8] {
+    part(&BROKEN, 0, n)
 }
 
 /// A server span with no texts and room for `rows` rows.
@@ -37,6 +44,29 @@ pub fn set<'t>(list: u8, key: &'t [u8], value: &'t [u8]) -> Call<'t> {
         kind: 3,
         value,
     }
+}
+
+/// An event.
+pub fn event(title: &[u8]) -> Call<'_> {
+    Call::Event { title, time: 11 }
+}
+
+/// A link, with a trace state and a value of so many bytes.
+pub fn link(trace_state: &[u8], length: usize) -> Call<'_> {
+    Call::Link {
+        trace_state,
+        value: text(length),
+    }
+}
+
+/// A status with its description.
+pub fn status(code: u8, description: &[u8]) -> Call<'_> {
+    Call::Status { code, description }
+}
+
+/// Another name.
+pub fn rename(title: &[u8]) -> Call<'_> {
+    Call::Rename { title }
 }
 
 /// The number of a start: 0, or that of its fault.

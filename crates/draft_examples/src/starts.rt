@@ -178,32 +178,6 @@ fn order(rt: HostRuntime) {
     );
 }
 
-// A refused start hands the memory back as it was, and a discarded draft leaves zeros.
-#[test]
-fn memory_back(rt: HostRuntime) {
-    let mut m = [7u8; 119];
-    assert_eq!(rt;
-        [start_number(&mut m, &start_of(0)), m[0], m[118]],
-        [12, 7, 7]
-    );
-    let mut n = [7u8; 130];
-    assert_eq!(rt;
-        [
-            start_number(
-                &mut n,
-                &Start {
-                    name: b"abc",
-                    ..start_of(0)
-                },
-            ),
-            n[10],
-            n[120],
-            n[129],
-        ],
-        [0, 0, 0, 0]
-    );
-}
-
 /// Starts a draft and ends it at once.
 fn put_ended(m: &mut [u8]) {
     let start = Start {
