@@ -8,3 +8,5 @@ pub mod Lawful
 pub mod Projections
 pub mod Places
 pub mod Questions
+pub mod Names
+pub mod Messages

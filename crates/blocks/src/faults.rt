@@ -1,9 +1,10 @@
 //! Why a block is refused. The fault of a value lies whole inside that of its row, and that inside the
 //! block's.
-ghost use Rattle.std.specs.Prelude.{◌≡◌, unwrap_or};
+ghost use Rattle.std.specs.Prelude.{◌≡◌, Some, unwrap_or};
 ghost use Rattle.blocks.specs.declared.faults.RowFault.TheVariants.{List, Value};
 ghost use Rattle.blocks.specs.declared.faults.BlockFault.TheVariants.{Text, Row};
 ghost use Rattle.blocks.specs.Answers.{text_number, row_number, row_part, block_number, row_of, faulty_row, part_number, block_part};
+ghost use Rattle.blocks.specs.Messages.{text_message, row_message, block_message, part_name};
 
 use crate::lists::UnknownList;
 use std::fmt;
@@ -188,6 +189,8 @@ impl BlockFault {
 }
 
 impl fmt::Display for TextFault {
+    ghost output = { λ f. Some (text_message f) };
+
     fn fmt<W: fmt::Write>(&self, f: &mut fmt::Formatter<W>) -> fmt::Result {
         f.pad(match self {
             TextFault::Place => "a header text too long or beyond the text used",
@@ -197,6 +200,8 @@ impl fmt::Display for TextFault {
 }
 
 impl fmt::Display for RowFault {
+    ghost output = { λ f. Some (row_message f) };
+
     fn fmt<W: fmt::Write>(&self, f: &mut fmt::Formatter<W>) -> fmt::Result {
         f.pad(match self {
             RowFault::List => "no such list, no owner above, or over 128 rows of the list",
@@ -212,6 +217,8 @@ impl fmt::Display for RowFault {
 }
 
 impl fmt::Display for BlockFault {
+    ghost output = { λ f. Some (block_message f) };
+
     fn fmt<W: fmt::Write>(&self, f: &mut fmt::Formatter<W>) -> fmt::Result {
         match self {
             BlockFault::Length => f.pad("length outside 120 to 65,536"),
@@ -224,6 +231,8 @@ impl fmt::Display for BlockFault {
 }
 
 impl fmt::Display for Part {
+    ghost output = { λ p. Some (part_name p) };
+
     fn fmt<W: fmt::Write>(&self, f: &mut fmt::Formatter<W>) -> fmt::Result {
         f.pad(match self {
             Part::Block => "block",

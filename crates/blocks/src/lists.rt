@@ -1,6 +1,7 @@
 //! The lists that rows belong to.
-ghost use Rattle.std.specs.Prelude.{◌≡◌};
+ghost use Rattle.std.specs.Prelude.{◌≡◌, Some};
 ghost use Rattle.blocks.specs.Lists.{list_number, ListRead, plain_number, owner_list, owned_list};
+ghost use Rattle.blocks.specs.Names.{list_name};
 
 use std::fmt;
 
@@ -98,6 +99,8 @@ impl Owner {
 }
 
 impl fmt::Display for List {
+    ghost output = { λ l. Some (list_name l) };
+
     fn fmt<W: fmt::Write>(&self, f: &mut fmt::Formatter<W>) -> fmt::Result {
         f.pad(match self {
             List::Span => "span",

@@ -1,6 +1,7 @@
 //! The kind and the status of a span.
-ghost use Rattle.std.specs.Prelude.{◌≡◌};
+ghost use Rattle.std.specs.Prelude.{◌≡◌, Some};
 ghost use Rattle.blocks.specs.Facts.{span_kind_number, span_kind_of, status_number, status_of};
+ghost use Rattle.blocks.specs.Names.{kind_name, status_name};
 
 use std::fmt;
 
@@ -67,6 +68,8 @@ impl From<StatusCode> for u8 {
 }
 
 impl fmt::Display for SpanKind {
+    ghost output = { λ k. Some (kind_name k) };
+
     fn fmt<W: fmt::Write>(&self, f: &mut fmt::Formatter<W>) -> fmt::Result {
         f.pad(match self {
             SpanKind::Internal => "internal",
@@ -79,6 +82,8 @@ impl fmt::Display for SpanKind {
 }
 
 impl fmt::Display for StatusCode {
+    ghost output = { λ s. Some (status_name s) };
+
     fn fmt<W: fmt::Write>(&self, f: &mut fmt::Formatter<W>) -> fmt::Result {
         f.pad(match self {
             StatusCode::Unset => "unset",
