@@ -5,6 +5,7 @@ pub mod call;
 mod calls;
 mod checks;
 pub mod draft;
+mod meaning;
 mod opening;
 pub mod refusal;
 mod rows;

@@ -3,7 +3,6 @@
 #![tactic(auto)]
 
 mod attribute;
-mod named;
 mod report;
 
 use crate::attribute::Attribute;
@@ -22,12 +21,14 @@ fn print_attribute(
     attribute: &Attribute<'_>,
     tally: &mut Tally,
 ) -> io::Result<()> {
-    let outcome = check(attribute.kind, attribute.bytes.as_slice());
+    let key = attribute.key;
+    let kind = attribute.value.kind;
+    let outcome = check(kind, attribute.value.bytes.as_slice());
     tally.count(outcome.is_ok());
     let report = Report {
         line,
-        key: attribute.key,
-        kind: attribute.kind,
+        key,
+        kind,
         outcome,
     };
     println!(rt; "{report}")

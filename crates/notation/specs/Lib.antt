@@ -2,6 +2,7 @@ pub mod Cuts
 pub mod Faults
 pub mod Hex
 pub mod Kinds
+pub mod Notations
 pub mod Reading
 pub mod Scalars
 pub mod Strings

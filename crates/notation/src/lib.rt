@@ -1,5 +1,5 @@
 //! What the programs' texts have in common: lines, words, hex digits, values as they are written, which kind
-//! a word names, and how a line's outcome is printed and counted.
+//! a word names, where a text comes from, and how a line's outcome is printed and counted.
 #![tactic(auto)]
 
 pub mod cut;
@@ -7,6 +7,10 @@ pub mod element;
 pub mod fault;
 pub mod hex;
 pub mod kinds;
+pub mod named;
 pub mod quoted;
+pub mod raw;
 pub mod report;
+pub mod source;
 pub mod tally;
+pub mod written;

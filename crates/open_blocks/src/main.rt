@@ -1,81 +1,51 @@
-//! Opens blocks: reads one a line from standard input, as hex digits, and prints what it holds or why
-//! it is refused. With the argument `count` it prints only how many blocks were accepted and refused.
+//! Opens blocks: lines of hex digits on standard input, or files that have a block each. Of each it prints what
+//! the block holds, or why it is refused. With the argument `count` it prints only how many were accepted and refused.
 #![tactic(auto)]
 
+mod origin;
 mod refusal;
-mod report;
-mod rows;
+mod request;
 
+use crate::origin::Origin;
 use crate::refusal::Refusal;
-use crate::report::Facts;
-use crate::rows::print_rows;
-use anyhow::anyhow;
-use blocks::faults::BlockFault;
-use blocks::sdk_span::{SdkSpan, open};
+use crate::request::{Mode, Request};
+use blocks::sdk_span::open;
 use notation::cut::{Line, Lines};
 use notation::hex::read_bytes;
 use notation::report::NotRead;
+use notation::source::Source;
 use notation::tally::{Summary, Tally};
-use std::env;
-use std::io::Read;
+use span_report::facts::Facts;
+use std::io;
 
-/// What is printed besides the summary.
-#[derive(Clone, Copy, PartialEq, Eq)]
-enum Mode {
-    /// Each block.
-    Show,
-    /// Nothing.
-    Count,
-}
-
-fn read_mode(rt: &HostRuntime) -> anyhow::Result<Mode> {
-    let mut mode = Mode::Show;
-    for word in env::args(rt)?.skip(1) {
-        if word.as_str() != "count" {
-            return Err(anyhow!("the only argument known is count"));
-        }
-        mode = Mode::Count;
-    }
-    Ok(mode)
-}
-
-/// Prints what a block holds, or why it is refused.
-fn print_block(
-    rt: &HostRuntime,
-    line: u64,
-    outcome: Result<SdkSpan<'_>, BlockFault>,
-) -> anyhow::Result<()> {
-    match outcome {
-        Ok(span) => {
-            print!(rt; "{}", Facts { line, span })?;
-            print_rows(rt, span)?;
-            println!(rt; "")?;
-        }
-        Err(fault) => println!(rt; "{}", Refusal { line, fault })?,
-    }
-    Ok(())
-}
-
-/// Opens the block of a line and counts it; nothing for an empty line or a comment.
-fn open_line(
+/// Opens a block and counts it; prints what it holds, or why it is refused.
+fn open_block(
     rt: &HostRuntime,
     mode: Mode,
-    line: Line<'_>,
+    origin: Origin<'_>,
+    block: &[u8],
     tally: &mut Tally,
-) -> anyhow::Result<()> {
+) -> io::Result<()> {
+    let outcome = open(block);
+    tally.count(outcome.is_ok());
+    if mode == Mode::Count {
+        return Ok(());
+    }
+    match outcome {
+        Ok(span) => println!(rt; "{origin} accepted\n{}", Facts { span }),
+        Err(fault) => println!(rt; "{}", Refusal { origin, fault }),
+    }
+}
+
+/// Opens the block of a line; nothing for an empty line or a comment.
+fn open_line(rt: &HostRuntime, mode: Mode, line: Line<'_>, tally: &mut Tally) -> io::Result<()> {
     if line.says_nothing() {
         return Ok(());
     }
     let text = line.text.trim_ascii();
     let line = line.number;
     match read_bytes(rt.alloc(), text) {
-        Ok(block) => {
-            let outcome = open(block.as_slice());
-            tally.count(outcome.is_ok());
-            if mode == Mode::Show {
-                print_block(rt, line, outcome)?;
-            }
-        }
+        Ok(block) => open_block(rt, mode, Origin::Line(line), block.as_slice(), tally)?,
         Err(fault) => {
             tally.count_not_read();
             if mode == Mode::Show {
@@ -86,13 +56,35 @@ fn open_line(
     Ok(())
 }
 
+/// Opens the block of a file, or that of each line of standard input.
+fn open_source(
+    rt: &HostRuntime,
+    mode: Mode,
+    source: Source<'_>,
+    tally: &mut Tally,
+) -> io::Result<()> {
+    match source.read(rt) {
+        Ok(bytes) => match source {
+            Source::File(name) => {
+                open_block(rt, mode, Origin::File(name), bytes.as_slice(), tally)?;
+            }
+            Source::StandardInput => {
+                for line in Lines::new(bytes.as_slice()) {
+                    open_line(rt, mode, line, tally)?;
+                }
+            }
+        },
+        // Told with `count` as well, since the summary counts lines alone.
+        Err(error) => println!(rt; "{source} not read: {error}\n")?,
+    }
+    Ok(())
+}
+
 fn run(rt: &HostRuntime) -> anyhow::Result<()> {
-    let mode = read_mode(rt)?;
-    let mut input = Vec::new(rt.alloc());
-    rt.stdin().read_to_end(&mut input)?;
+    let request = Request::read(rt, rt.alloc())?;
     let mut tally = Tally::default();
-    for line in Lines::new(input.as_slice()) {
-        open_line(rt, mode, line, &mut tally)?;
+    for name in request.sources.iter() {
+        open_source(rt, request.mode, Source::named(name.as_str()), &mut tally)?;
     }
     let taken = "blocks accepted";
     println!(rt; "{}", Summary { taken, tally })?;

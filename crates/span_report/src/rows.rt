@@ -1,4 +1,5 @@
 //! What is printed of a row: its number, list and key in columns, and what its list gives it.
+use crate::columns::InColumn;
 use blocks::lists::List;
 use blocks::row::Row;
 use blocks::sdk_span::SdkSpan;
@@ -57,23 +58,42 @@ impl fmt::Display for ListName {
     }
 }
 
-fn print_row(rt: &HostRuntime, number: u16, row: Row<'_>) -> anyhow::Result<()> {
-    let list = List::try_from(row.list).ok();
-    let name = ListName(list);
-    // A column is filled up behind text alone, so the key becomes text first.
-    let key = Escaped(row.key).to_string(rt.alloc())?;
-    let content = Content { list, row };
-    println!(rt; "  {number:>5} {name:<15} {key:<28} {content}")?;
-    Ok(())
+/// A row, and its number.
+#[derive(Clone, Copy)]
+struct Numbered<'a> {
+    number: u16,
+    row: Row<'a>,
 }
 
-/// Prints the rows of a span, each on a line.
-pub fn print_rows(rt: &HostRuntime, span: SdkSpan<'_>) -> anyhow::Result<()> {
-    // By number, since it is printed.
-    for number in 0..span.row_count() {
-        if let Ok(row) = span.row(number) {
-            print_row(rt, number, row)?;
-        }
+impl fmt::Display for Numbered<'_> {
+    fn fmt<W: fmt::Write>(&self, f: &mut fmt::Formatter<W>) -> fmt::Result {
+        let number = self.number;
+        let row = self.row;
+        let list = List::try_from(row.list).ok();
+        let name = ListName(list);
+        let key = InColumn {
+            value: Escaped(row.key),
+            width: 28,
+        };
+        let content = Content { list, row };
+        write!(f, "  {number:>5} {name:<15} {key} {content}")
     }
-    Ok(())
+}
+
+/// The rows of a span, each on a line.
+#[derive(Clone, Copy)]
+pub struct Rows<'a> {
+    pub span: SdkSpan<'a>,
+}
+
+impl fmt::Display for Rows<'_> {
+    fn fmt<W: fmt::Write>(&self, f: &mut fmt::Formatter<W>) -> fmt::Result {
+        // By number, since it is printed.
+        for number in 0..self.span.row_count() {
+            if let Ok(row) = self.span.row(number) {
+                writeln!(f, "{}", Numbered { number, row })?;
+            }
+        }
+        Ok(())
+    }
 }

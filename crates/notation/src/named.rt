@@ -1,8 +1,8 @@
-//! How a line names the kind of its value.
+//! How a line names the kind of a value.
 ghost use Rattle.std.specs.Prelude.{◌≡◌};
-ghost use Rattle.inspect.specs.Notations.{notation_of, NamesReadBack};
+ghost use Rattle.notation.specs.Notations.{notation_of, NamesReadBack};
 
-use notation::kinds::kind_named;
+use crate::kinds::kind_named;
 use values::kinds::ValueKind;
 
 /// How a value is written: as one of its kind, or by its bytes. Not an `Option`, whose `None` would not say by what.

@@ -5,8 +5,8 @@ use Rattle.std.specs.Str.{bytes_eq}
 use Rattle.notation.specs.Kinds.{kind_in}
 use Rattle.values.specs.KindNames.{name_of_kind}
 use Rattle.values.specs.declared.kinds.ValueKind.{ValueKind}
-use Rattle.inspect.specs.declared.named.Notation.{Notation}
-use Rattle.inspect.specs.declared.named.Notation.TheVariants.{Typed, Raw}
+use Rattle.notation.specs.declared.named.Notation.{Notation}
+use Rattle.notation.specs.declared.named.Notation.TheVariants.{Typed, Raw}
 
 abbrev pub notation_of : List ℕ → Option Notation
 notation_of name = cond (bytes_eq name (codes "raw")) (Some Raw) (option_map Typed (kind_in name))

@@ -1,4 +1,4 @@
-//! What is printed of a block that is accepted: a label and a value in each row.
+//! What is printed of a span's header: a label and a value in each row.
 use blocks::sdk_span::SdkSpan;
 use escape::Escaped;
 use notation::report::write_row;
@@ -41,17 +41,14 @@ fn write_counts<W: fmt::Write>(f: &mut fmt::Formatter<W>, span: SdkSpan<'_>) -> 
     write_row(f, "rows", span.row_count())
 }
 
-/// A block that is accepted, but for its rows, and the line that it stands in.
+/// A span, but for its rows.
 #[derive(Clone, Copy)]
-pub struct Facts<'a> {
-    pub line: u64,
+pub struct Header<'a> {
     pub span: SdkSpan<'a>,
 }
 
-impl fmt::Display for Facts<'_> {
+impl fmt::Display for Header<'_> {
     fn fmt<W: fmt::Write>(&self, f: &mut fmt::Formatter<W>) -> fmt::Result {
-        let line = self.line;
-        writeln!(f, "line {line:<11} accepted")?;
         write_ids(f, self.span)?;
         write_course(f, self.span)?;
         write_texts(f, self.span)?;

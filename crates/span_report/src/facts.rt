@@ -1,0 +1,17 @@
+//! All that is printed of a span: its header, a label and a value in each row, and its rows, each on a line.
+use crate::header::Header;
+use crate::rows::Rows;
+use blocks::sdk_span::SdkSpan;
+use std::fmt;
+
+#[derive(Clone, Copy)]
+pub struct Facts<'a> {
+    pub span: SdkSpan<'a>,
+}
+
+impl fmt::Display for Facts<'_> {
+    fn fmt<W: fmt::Write>(&self, f: &mut fmt::Formatter<W>) -> fmt::Result {
+        let span = self.span;
+        write!(f, "{}{}", Header { span }, Rows { span })
+    }
+}
