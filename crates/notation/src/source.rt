@@ -1,4 +1,8 @@
 //! What a program reads: standard input, or files that its arguments name.
+ghost use Rattle.std.specs.Prelude.{◌≡◌, cond, codes};
+ghost use Rattle.std.specs.Str.{bytes_eq};
+ghost use Rattle.notation.specs.declared.source.Source.TheVariants.{StandardInput, File};
+
 use std::io::Read;
 use std::{fmt, fs, io};
 
@@ -11,7 +15,9 @@ pub enum Source<'a> {
 
 impl<'a> Source<'a> {
     /// The source that an argument names: `-` is standard input.
-    pub fn named(word: &'a str) -> Source<'a> {
+    pub fn named(word: &'a str) -> Source<'a>
+        ensures { result ≡ cond (bytes_eq word.now (codes "-")) StandardInput (File word.entry) }
+    {
         if word == "-" {
             Source::StandardInput
         } else {
