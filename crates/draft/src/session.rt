@@ -38,7 +38,7 @@ fn read_line(rt: &HostRuntime, line: Line<'_>, tally: &mut Tally) -> io::Result<
         return Ok(None);
     }
     let number = line.number;
-    let text = line.text.trim_ascii();
+    let text = line.text.trim_ascii_start();
     println!(rt; "line {number:<11} {}", Escaped(text))?;
     match Command::parse(rt.alloc(), text) {
         Ok(command) => Ok(Some(command)),
