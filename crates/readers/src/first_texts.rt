@@ -1,5 +1,6 @@
 //! The first text that is not empty under several keys, on the span or on its resource.
-ghost use Rattle.std.specs.Prelude.{◌≡◌, ℕ, List};
+ghost use Rattle.std.specs.Prelude.{◌≡◌, ℕ, List, []};
+ghost use Rattle.std.specs.Option.{MatchOption};
 ghost use Rattle.readers.specs.Reading.{Reading};
 ghost use Rattle.readers.specs.Texts.{Filled, span_text, resource_text, places_of, first_text, first_span_text, first_resource_text};
 
@@ -12,8 +13,9 @@ trait Side {
     // The text under a key, the empty one where there is none.
     ghost text: { Reading → ℕ → List ℕ };
 
-    fn read<S: OtelSpan>(span: &S, key: AttributeKey, out: &mut [u8; 4096]) -> usize
-        ensures { Filled 4096 (text (S.OtelSpan.reading span.now) key.idx) result out.new };
+    // None where there is none for certain: memory is as it was.
+    fn read<S: OtelSpan>(span: &S, key: AttributeKey, out: &mut [u8; 4096]) -> Option<usize>
+        ensures { MatchOption result ((text (S.OtelSpan.reading span.now) key.idx ≡ []) × (out.new ≡ out.old)) (λ n. Filled 4096 (text (S.OtelSpan.reading span.now) key.idx) n out.new) };
 }
 
 /// On the span.
@@ -25,16 +27,20 @@ struct OnResource;
 impl Side for OnSpan {
     ghost text = { span_text };
 
-    fn read<S: OtelSpan>(span: &S, key: AttributeKey, out: &mut [u8; 4096]) -> usize {
-        get_attr_str(span, key, out)
+    fn read<S: OtelSpan>(span: &S, key: AttributeKey, out: &mut [u8; 4096]) -> Option<usize> {
+        if !span.has_attr(key) {
+            return None;
+        }
+        Some(get_attr_str(span, key, out))
     }
 }
 
 impl Side for OnResource {
     ghost text = { resource_text };
 
-    fn read<S: OtelSpan>(span: &S, key: AttributeKey, out: &mut [u8; 4096]) -> usize {
-        span.get_res_attribute_opt(key, out).unwrap_or(0)
+    fn read<S: OtelSpan>(span: &S, key: AttributeKey, out: &mut [u8; 4096]) -> Option<usize> {
+        // A resource is not asked what it has.
+        Some(span.get_res_attribute_opt(key, out).unwrap_or(0))
     }
 }
 
@@ -47,13 +53,18 @@ fn first_on<T: Side, S: OtelSpan>(
 ) -> usize
     ensures { Filled 4096 (first_text (T.Side.text (S.OtelSpan.reading span.now)) (places_of attributes.now)) result out.new }
 {
+    let mut clear = false;
     for key in attributes {
-        let n = T::read(span, *key, out);
-        if n > 0 {
-            return n;
+        match T::read(span, *key, out) {
+            Some(0) => clear = true,
+            Some(n) => return n,
+            None => {}
         }
     }
-    TextWriter::new(out).finish()
+    if !clear {
+        TextWriter::new(out).finish();
+    }
+    0
 }
 
 /// The first text of the span under the keys that is not empty.

@@ -58,7 +58,9 @@ fn res_span_attribute<S: OtelSpan>(
 {
     match span.get_res_attribute_opt(key, out) {
         Some(n) if n > 0 => Some(n),
-        _ => span.get_attr_str_opt(key, out),
+        _ if span.has_attr(key) => span.get_attr_str_opt(key, out),
+        // The memory is clear already.
+        _ => None,
     }
 }
 
@@ -76,5 +78,9 @@ pub fn get_res_span_attributes<S: OtelSpan>(
             return n;
         }
     }
-    TextWriter::new(out).finish()
+    // The last turn left the memory clear.
+    if attributes.is_empty() {
+        TextWriter::new(out).finish();
+    }
+    0
 }
