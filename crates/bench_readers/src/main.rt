@@ -63,63 +63,67 @@ fn put_row(m: &mut [u8], i: u16, row: At) {
     row.value.put(m, at + 12);
 }
 
-/// Writes the block, and answers its length. Its rows share two keys and are no rows of `bench_blocks`, whose keys all
-/// differ.
-fn put_block(m: &mut [u8], shape: Shape) -> usize {
-    let others = shape.others.min(1000);
-    let rows = others + 2;
-    let statement = shape.statement.min(4096);
-    let offset = 120 + 24 * rows as u32;
+/// The header: a client's span, so many rows, and how long the text behind them is.
+fn put_header(m: &mut [u8], rows: u16, offset: u32, text_len: u32) {
     1u16.put(m, 0);
     rows.put(m, 2);
     offset.put(m, 4);
     rows.put(m, 8);
     write(m, 10, &[3, 0]);
+    text_len.put(m, 12);
+    write(m, 76, &[1]);
+}
+
+/// A row of an unknown key, the span's or the resource's in turn.
+fn other_row(i: u16) -> At {
+    let list = if i % 2 == 0 {
+        List::Span
+    } else {
+        List::Resource
+    };
+    At {
+        list,
+        key: 31,
+        key_len: 14,
+        value: 0,
+        value_len: 9,
+    }
+}
+
+/// The rows: the unknown keys, and below them the database and the statement.
+fn put_rows(m: &mut [u8], others: u16, statement: u32) {
+    for i in 0..others {
+        put_row(m, i, other_row(i));
+    }
+    let system = At {
+        list: List::Span,
+        key: 0,
+        key_len: 9,
+        value: 9,
+        value_len: 10,
+    };
+    let asked = At {
+        list: List::Span,
+        key: 19,
+        key_len: 12,
+        value: 45,
+        value_len: statement,
+    };
+    put_row(m, others, system);
+    put_row(m, others.saturating_add(1), asked);
+}
+
+/// Writes the block, and answers its length. Its rows share two keys and are no rows of `bench_blocks`, whose keys all
+/// differ.
+fn put_block(m: &mut [u8], shape: Shape) -> usize {
+    let others = shape.others.min(1000);
+    let statement = shape.statement.min(4096);
+    let offset = 120 + 24 * (others + 2) as u32;
+    put_header(m, others + 2, offset, 45 + statement);
+    put_rows(m, others, statement);
     let text = offset as usize;
     write(m, text, b"db.systemPostgreSQLdb.statementsome.other.key");
     write(m, text + 45, part(&[b's'; 4096], 0, statement as usize));
-    (45 + statement).put(m, 12);
-    write(m, 76, &[1]);
-    for i in 0..others {
-        let list = if i % 2 == 0 {
-            List::Span
-        } else {
-            List::Resource
-        };
-        put_row(
-            m,
-            i,
-            At {
-                list,
-                key: 31,
-                key_len: 14,
-                value: 0,
-                value_len: 9,
-            },
-        );
-    }
-    put_row(
-        m,
-        others,
-        At {
-            list: List::Span,
-            key: 0,
-            key_len: 9,
-            value: 9,
-            value_len: 10,
-        },
-    );
-    put_row(
-        m,
-        others + 1,
-        At {
-            list: List::Span,
-            key: 19,
-            key_len: 12,
-            value: 45,
-            value_len: statement,
-        },
-    );
     text + 45 + statement as usize
 }
 

@@ -1,3 +1,4 @@
+pub mod Absent
 pub mod Filling
 pub mod Names
 pub mod Types

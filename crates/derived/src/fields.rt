@@ -12,7 +12,7 @@ use crate::resource_name::get_otel_resource_v2;
 use crate::span_fields::{
     code_under, get_otel_env, get_otel_service, get_otel_span_type, get_otel_status_code,
 };
-use crate::texts::compose;
+use crate::texts::{compose, given_text};
 use names::attribute_keys::*;
 use readers::otel_util::{OtelSpan, get_attr_str};
 use readers::texts::Text;
@@ -85,11 +85,10 @@ fn own_or<S: OtelSpan, F: FnOnce(&mut [u8; 4096]) -> usize>(
     ensures own { 0 < length (span_text (S.OtelSpan.reading span.now) key.idx) → Filled 4096 (span_text (S.OtelSpan.reading span.now) key.idx) result out.new }
     ensures derived { length (span_text (S.OtelSpan.reading span.now) key.idx) ≤ 0 → (m : List ℕ) × FnOnceReturnsAtMut F.FnOnce derive m result out.new }
 {
-    let n = get_attr_str(span, key, out);
-    if n > 0 {
-        return n;
+    match given_text(span, key, out) {
+        Some(n) => n,
+        None => derive(out),
     }
-    derive(out)
 }
 
 /// The type.

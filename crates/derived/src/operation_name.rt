@@ -6,7 +6,7 @@ ghost use Rattle.std.specs.Str.{bytes_eq};
 ghost use Rattle.readers.specs.Texts.{Filled, Offered, or_absent, if_given, span_text};
 ghost use Rattle.derived.specs.OperationName.{lowered, is_http, query_name, messaging_name, aws_name, rpc_client_name, invoked_name, graphql_name, protocol_name, request_name, client_name, server_name, message_name, name_by_kind, operation_name};
 
-use crate::texts::{Scratch, compose, lower_first, lower_text};
+use crate::texts::{compose, lower_first, lower_text};
 use blocks::span_kind::SpanKind;
 use names::attribute_keys::*;
 use readers::otel_util::{OtelSpan, get_attr_str};
@@ -18,10 +18,10 @@ fn is_http<S: OtelSpan>(span: &S) -> bool
     span.has_attr(HTTP_METHOD) || span.has_attr(HTTP_REQUEST_METHOD)
 }
 
-fn query_name<S: OtelSpan>(span: &S, scratch: &mut Scratch, out: &mut [u8; 8200]) -> Option<usize>
+fn query_name<S: OtelSpan>(span: &S, memory: &mut [u8; 4096], out: &mut [u8; 8200]) -> Option<usize>
     ensures { Offered 8200 (query_name (S.OtelSpan.reading span.now)) result out.old out.new }
 {
-    let system = lower_first(span, &[DB_SYSTEM, DB_SYSTEM_NAME], &mut scratch.text);
+    let system = lower_first(span, &[DB_SYSTEM, DB_SYSTEM_NAME], memory);
     if system.is_empty() {
         return None;
     }
@@ -30,19 +30,20 @@ fn query_name<S: OtelSpan>(span: &S, scratch: &mut Scratch, out: &mut [u8; 8200]
 
 fn messaging_name<S: OtelSpan>(
     span: &S,
-    scratch: &mut Scratch,
+    memory: &mut [u8; 4096],
     out: &mut [u8; 8200],
 ) -> Option<usize>
     ensures { Offered 8200 (messaging_name (S.OtelSpan.reading span.now)) result out.old out.new }
 {
-    let system = lower_text(span, MESSAGING_SYSTEM, &mut scratch.text);
+    let system = lower_text(span, MESSAGING_SYSTEM, memory);
     if system.is_empty() {
         return None;
     }
+    let mut other = [0u8; 4096];
     let operation = lower_first(
         span,
         &[MESSAGING_OPERATION, MESSAGING_OPERATION_TYPE],
-        &mut scratch.other,
+        &mut other,
     );
     if operation.is_empty() {
         return None;
@@ -69,7 +70,7 @@ fn is_aws(system: Text<'_>) -> bool
 
 fn rpc_client_name<S: OtelSpan>(
     span: &S,
-    scratch: &mut Scratch,
+    memory: &mut [u8; 4096],
     out: &mut [u8; 8200],
 ) -> Option<usize>
     ensures { Offered 8200 (rpc_client_name (S.OtelSpan.reading span.now)) result out.old out.new }
@@ -77,14 +78,14 @@ fn rpc_client_name<S: OtelSpan>(
     if !span.has_attr(RPC_SYSTEM) {
         return None;
     }
-    let n = get_attr_str(span, RPC_SYSTEM, &mut scratch.text);
+    let n = get_attr_str(span, RPC_SYSTEM, memory);
     if n == 0 {
         return None;
     }
-    if is_aws(Text::front(&scratch.text, n)) {
-        return Some(aws_name(span, &mut scratch.other, out));
+    if is_aws(Text::front(memory, n)) {
+        return Some(aws_name(span, memory, out));
     }
-    let system = Text::lower_front(&mut scratch.text, n);
+    let system = Text::lower_front(memory, n);
     Some(compose(out, b"", b"", system.bytes, b".client.request"))
 }
 
@@ -93,36 +94,48 @@ fn named_after<S: OtelSpan>(
     span: &S,
     key: AttributeKey,
     word: Text<'_>,
-    scratch: &mut Scratch,
+    memory: &mut [u8; 4096],
     out: &mut [u8; 8200],
 ) -> Option<usize>
     ensures { Offered 8200 (if_given (span_text (S.OtelSpan.reading span.now) key.idx) (lowered (span_text (S.OtelSpan.reading span.now) key.idx) ++ word.entry.bytes.now)) result out.old out.new }
 {
-    let text = lower_text(span, key, &mut scratch.text);
+    let text = lower_text(span, key, memory);
     if text.is_empty() {
         return None;
     }
     Some(compose(out, b"", b"", text.bytes, word.bytes))
 }
 
-fn invoked_name<S: OtelSpan>(span: &S, scratch: &mut Scratch, out: &mut [u8; 8200]) -> Option<usize>
+fn invoked_name<S: OtelSpan>(
+    span: &S,
+    memory: &mut [u8; 4096],
+    out: &mut [u8; 8200],
+) -> Option<usize>
     ensures { Offered 8200 (invoked_name (S.OtelSpan.reading span.now)) result out.old out.new }
 {
-    let provider = lower_text(span, FAAS_INVOKED_PROVIDER, &mut scratch.text);
+    let provider = lower_text(span, FAAS_INVOKED_PROVIDER, memory);
     if provider.is_empty() {
         return None;
     }
-    let name = lower_text(span, FAAS_INVOKED_NAME, &mut scratch.other);
+    let mut other = [0u8; 4096];
+    let name = lower_text(span, FAAS_INVOKED_NAME, &mut other);
     if name.is_empty() {
         return None;
     }
     Some(compose(out, provider.bytes, b".", name.bytes, b".invoke"))
 }
 
-fn graphql_name<S: OtelSpan>(span: &S, scratch: &mut Scratch, out: &mut [u8; 8200]) -> Option<usize>
+fn graphql_name<S: OtelSpan>(
+    span: &S,
+    memory: &mut [u8; 4096],
+    out: &mut [u8; 8200],
+) -> Option<usize>
     ensures { Offered 8200 (graphql_name (S.OtelSpan.reading span.now)) result out.old out.new }
 {
-    let n = get_attr_str(span, GRAPHQL_OPERATION_TYPE, &mut scratch.text);
+    if !span.has_attr(GRAPHQL_OPERATION_TYPE) {
+        return None;
+    }
+    let n = get_attr_str(span, GRAPHQL_OPERATION_TYPE, memory);
     if n == 0 {
         return None;
     }
@@ -133,12 +146,12 @@ fn graphql_name<S: OtelSpan>(span: &S, scratch: &mut Scratch, out: &mut [u8; 820
 fn protocol_name<S: OtelSpan>(
     span: &S,
     request: Text<'_>,
-    scratch: &mut Scratch,
+    memory: &mut [u8; 4096],
     out: &mut [u8; 8200],
 ) -> Option<usize>
     ensures { Offered 8200 (protocol_name (S.OtelSpan.reading span.now) request.entry.bytes.now) result out.old out.new }
 {
-    let protocol = lower_text(span, NETWORK_PROTOCOL_NAME, &mut scratch.text);
+    let protocol = lower_text(span, NETWORK_PROTOCOL_NAME, memory);
     if protocol.is_empty() {
         return None;
     }
@@ -149,34 +162,34 @@ fn protocol_name<S: OtelSpan>(
 fn request_name<S: OtelSpan>(
     span: &S,
     request: Text<'_>,
-    scratch: &mut Scratch,
+    memory: &mut [u8; 4096],
     out: &mut [u8; 8200],
 ) -> usize
     ensures { Filled 8200 (request_name (S.OtelSpan.reading span.now) request.entry.bytes.now) result out.new }
 {
-    if let Some(n) = graphql_name(span, scratch, out) {
+    if let Some(n) = graphql_name(span, memory, out) {
         return n;
     }
-    if let Some(n) = protocol_name(span, request, scratch, out) {
+    if let Some(n) = protocol_name(span, request, memory, out) {
         return n;
     }
     compose(out, b"", b"", b"", request.bytes)
 }
 
 /// A client that speaks no HTTP: a database, a message, a call, a function, and last its protocol.
-fn client_name<S: OtelSpan>(span: &S, scratch: &mut Scratch, out: &mut [u8; 8200]) -> usize
+fn client_name<S: OtelSpan>(span: &S, memory: &mut [u8; 4096], out: &mut [u8; 8200]) -> usize
     ensures { Filled 8200 (client_name (S.OtelSpan.reading span.now)) result out.new }
 {
-    if let Some(n) = query_name(span, scratch, out) {
+    if let Some(n) = query_name(span, memory, out) {
         return n;
     }
-    if let Some(n) = messaging_name(span, scratch, out) {
+    if let Some(n) = messaging_name(span, memory, out) {
         return n;
     }
-    if let Some(n) = rpc_client_name(span, scratch, out) {
+    if let Some(n) = rpc_client_name(span, memory, out) {
         return n;
     }
-    if let Some(n) = invoked_name(span, scratch, out) {
+    if let Some(n) = invoked_name(span, memory, out) {
         return n;
     }
     request_name(
@@ -184,16 +197,16 @@ fn client_name<S: OtelSpan>(span: &S, scratch: &mut Scratch, out: &mut [u8; 8200
         Text {
             bytes: b"client.request",
         },
-        scratch,
+        memory,
         out,
     )
 }
 
 /// A server that speaks no HTTP.
-fn server_name<S: OtelSpan>(span: &S, scratch: &mut Scratch, out: &mut [u8; 8200]) -> usize
+fn server_name<S: OtelSpan>(span: &S, memory: &mut [u8; 4096], out: &mut [u8; 8200]) -> usize
     ensures { Filled 8200 (server_name (S.OtelSpan.reading span.now)) result out.new }
 {
-    if let Some(n) = messaging_name(span, scratch, out) {
+    if let Some(n) = messaging_name(span, memory, out) {
         return n;
     }
     if let Some(n) = named_after(
@@ -202,12 +215,12 @@ fn server_name<S: OtelSpan>(span: &S, scratch: &mut Scratch, out: &mut [u8; 8200
         Text {
             bytes: b".server.request",
         },
-        scratch,
+        memory,
         out,
     ) {
         return n;
     }
-    if let Some(n) = named_after(span, FAAS_TRIGGER, Text { bytes: b".invoke" }, scratch, out) {
+    if let Some(n) = named_after(span, FAAS_TRIGGER, Text { bytes: b".invoke" }, memory, out) {
         return n;
     }
     request_name(
@@ -215,7 +228,7 @@ fn server_name<S: OtelSpan>(span: &S, scratch: &mut Scratch, out: &mut [u8; 8200
         Text {
             bytes: b"server.request",
         },
-        scratch,
+        memory,
         out,
     )
 }
@@ -224,12 +237,12 @@ fn server_name<S: OtelSpan>(span: &S, scratch: &mut Scratch, out: &mut [u8; 8200
 fn graphql_or<S: OtelSpan>(
     span: &S,
     fallback: Text<'_>,
-    scratch: &mut Scratch,
+    memory: &mut [u8; 4096],
     out: &mut [u8; 8200],
 ) -> usize
     ensures { Filled 8200 (or_absent (graphql_name (S.OtelSpan.reading span.now)) fallback.entry.bytes.now) result out.new }
 {
-    match graphql_name(span, scratch, out) {
+    match graphql_name(span, memory, out) {
         Some(n) => n,
         None => compose(out, b"", b"", b"", fallback.bytes),
     }
@@ -239,29 +252,29 @@ fn graphql_or<S: OtelSpan>(
 fn message_name<S: OtelSpan>(
     span: &S,
     fallback: Text<'_>,
-    scratch: &mut Scratch,
+    memory: &mut [u8; 4096],
     out: &mut [u8; 8200],
 ) -> usize
     ensures { Filled 8200 (message_name (S.OtelSpan.reading span.now) fallback.entry.bytes.now) result out.new }
 {
-    match messaging_name(span, scratch, out) {
+    match messaging_name(span, memory, out) {
         Some(n) => n,
-        None => graphql_or(span, fallback, scratch, out),
+        None => graphql_or(span, fallback, memory, out),
     }
 }
 
 /// By the kind of the span and the attributes present.
-fn name_by_kind<S: OtelSpan>(span: &S, scratch: &mut Scratch, out: &mut [u8; 8200]) -> usize
+fn name_by_kind<S: OtelSpan>(span: &S, memory: &mut [u8; 4096], out: &mut [u8; 8200]) -> usize
     ensures { Filled 8200 (name_by_kind (S.OtelSpan.reading span.now) (S.OtelSpan.reading span.now).kind) result out.new }
 {
     match span.span_kind() {
         SpanKind::Client if is_http(span) => compose(out, b"", b"", b"", b"http.client.request"),
         SpanKind::Server if is_http(span) => compose(out, b"", b"", b"", b"http.server.request"),
-        SpanKind::Client => client_name(span, scratch, out),
-        SpanKind::Server => server_name(span, scratch, out),
-        SpanKind::Producer => message_name(span, Text { bytes: b"producer" }, scratch, out),
-        SpanKind::Consumer => message_name(span, Text { bytes: b"consumer" }, scratch, out),
-        SpanKind::Internal => graphql_or(span, Text { bytes: b"internal" }, scratch, out),
+        SpanKind::Client => client_name(span, memory, out),
+        SpanKind::Server => server_name(span, memory, out),
+        SpanKind::Producer => message_name(span, Text { bytes: b"producer" }, memory, out),
+        SpanKind::Consumer => message_name(span, Text { bytes: b"consumer" }, memory, out),
+        SpanKind::Internal => graphql_or(span, Text { bytes: b"internal" }, memory, out),
     }
 }
 
@@ -270,10 +283,10 @@ fn name_by_kind<S: OtelSpan>(span: &S, scratch: &mut Scratch, out: &mut [u8; 820
 pub fn get_otel_operation_name_v2<S: OtelSpan>(span: &S, out: &mut [u8; 8200]) -> usize
     ensures { Filled 8200 (operation_name (S.OtelSpan.reading span.now)) result out.new }
 {
-    let mut scratch = Scratch::new();
+    let mut memory = [0u8; 4096];
     if span.has_attr(OPERATION_NAME) {
-        let n = get_attr_str(span, OPERATION_NAME, &mut scratch.text);
-        return compose(out, b"", b"", b"", Text::front(&scratch.text, n).bytes);
+        let n = get_attr_str(span, OPERATION_NAME, &mut memory);
+        return compose(out, b"", b"", b"", Text::front(&memory, n).bytes);
     }
-    name_by_kind(span, &mut scratch, out)
+    name_by_kind(span, &mut memory, out)
 }

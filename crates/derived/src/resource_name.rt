@@ -4,7 +4,7 @@ ghost use Rattle.std.specs.Prelude.{◌≡◌};
 ghost use Rattle.readers.specs.Texts.{Filled, Offered, or_absent, if_given, res_span_text, places_of};
 ghost use Rattle.derived.specs.ResourceName.{beside, detailed, method_name, route_by, http_resource, messaging_resource, asked_text, database_resource, given_resource, resource_by_use, resource_name};
 
-use crate::texts::{Scratch, compose};
+use crate::texts::compose;
 use blocks::span_kind::SpanKind;
 use names::attribute_keys::*;
 use readers::otel_util::{OtelSpan, get_res_span_attributes};
@@ -37,16 +37,17 @@ fn detailed_name<S: OtelSpan>(
     span: &S,
     keys: &[AttributeKey],
     details: &[AttributeKey],
-    scratch: &mut Scratch,
+    memory: &mut [u8; 4096],
     out: &mut [u8; 8200],
 ) -> Option<usize>
     ensures { Offered 8200 (detailed (res_span_text (S.OtelSpan.reading span.now) (places_of keys.now)) (res_span_text (S.OtelSpan.reading span.now) (places_of details.now))) result out.old out.new }
 {
-    let name = res_span_text(span, keys, &mut scratch.text);
+    let name = res_span_text(span, keys, memory);
     if name.is_empty() {
         return None;
     }
-    let detail = res_span_text(span, details, &mut scratch.other);
+    let mut other = [0u8; 4096];
+    let detail = res_span_text(span, details, &mut other);
     Some(with_detail(out, name, detail))
 }
 
@@ -73,16 +74,17 @@ fn route<'t, S: OtelSpan>(span: &S, memory: &'t mut [u8; 4096]) -> Text<'t>
 
 fn http_resource<S: OtelSpan>(
     span: &S,
-    scratch: &mut Scratch,
+    memory: &mut [u8; 4096],
     out: &mut [u8; 8200],
 ) -> Option<usize>
     ensures { Offered 8200 (http_resource (S.OtelSpan.reading span.now)) result out.old out.new }
 {
-    let method = res_span_text(span, &[HTTP_REQUEST_METHOD, HTTP_METHOD], &mut scratch.text);
+    let method = res_span_text(span, &[HTTP_REQUEST_METHOD, HTTP_METHOD], memory);
     if method.is_empty() {
         return None;
     }
-    Some(with_detail(out, method_name(method), route(span, &mut scratch.other)))
+    let mut other = [0u8; 4096];
+    Some(with_detail(out, method_name(method), route(span, &mut other)))
 }
 
 /// What a database was asked.
@@ -98,16 +100,16 @@ fn asked_text<'t, S: OtelSpan>(span: &S, memory: &'t mut [u8; 4096]) -> Text<'t>
 
 fn database_resource<S: OtelSpan>(
     span: &S,
-    scratch: &mut Scratch,
+    memory: &mut [u8; 4096],
     out: &mut [u8; 8200],
 ) -> Option<usize>
     ensures { Offered 8200 (database_resource (S.OtelSpan.reading span.now)) result out.old out.new }
 {
-    let n = get_res_span_attributes(span, &[DB_SYSTEM_NAME, DB_SYSTEM], &mut scratch.text);
+    let n = get_res_span_attributes(span, &[DB_SYSTEM_NAME, DB_SYSTEM], memory);
     if n == 0 {
         return None;
     }
-    let asked = asked_text(span, &mut scratch.text);
+    let asked = asked_text(span, memory);
     if asked.is_empty() {
         return None;
     }
@@ -117,12 +119,12 @@ fn database_resource<S: OtelSpan>(
 /// The attribute of that name.
 fn given_resource<S: OtelSpan>(
     span: &S,
-    scratch: &mut Scratch,
+    memory: &mut [u8; 4096],
     out: &mut [u8; 8200],
 ) -> Option<usize>
     ensures { Offered 8200 (given_resource (S.OtelSpan.reading span.now)) result out.old out.new }
 {
-    let given = res_span_text(span, &[RESOURCE_NAME], &mut scratch.text);
+    let given = res_span_text(span, &[RESOURCE_NAME], memory);
     if given.is_empty() {
         return None;
     }
@@ -130,38 +132,38 @@ fn given_resource<S: OtelSpan>(
 }
 
 /// The span's own name.
-fn own_name<S: OtelSpan>(span: &S, scratch: &mut Scratch, out: &mut [u8; 8200]) -> usize
+fn own_name<S: OtelSpan>(span: &S, memory: &mut [u8; 4096], out: &mut [u8; 8200]) -> usize
     ensures { Filled 8200 (S.OtelSpan.reading span.now).name result out.new }
 {
-    let n = span.name(&mut scratch.text);
-    compose(out, b"", b"", b"", Text::front(&scratch.text, n).bytes)
+    let n = span.name(memory);
+    compose(out, b"", b"", b"", Text::front(memory, n).bytes)
 }
 
 /// By what a span calls or asks, in this order, and else its name.
-fn resource_by_use<S: OtelSpan>(span: &S, scratch: &mut Scratch, out: &mut [u8; 8200]) -> usize
+fn resource_by_use<S: OtelSpan>(span: &S, memory: &mut [u8; 4096], out: &mut [u8; 8200]) -> usize
     ensures { Filled 8200 (resource_by_use (S.OtelSpan.reading span.now)) result out.new }
 {
-    if let Some(n) = detailed_name(span, &[RPC_METHOD], &[RPC_SERVICE], scratch, out) {
+    if let Some(n) = detailed_name(span, &[RPC_METHOD], &[RPC_SERVICE], memory, out) {
         return n;
     }
     if let Some(n) = detailed_name(
         span,
         &[GRAPHQL_OPERATION_TYPE],
         &[GRAPHQL_OPERATION_NAME],
-        scratch,
+        memory,
         out,
     ) {
         return n;
     }
-    if let Some(n) = database_resource(span, scratch, out) {
+    if let Some(n) = database_resource(span, memory, out) {
         return n;
     }
-    own_name(span, scratch, out)
+    own_name(span, memory, out)
 }
 
 fn messaging_resource<S: OtelSpan>(
     span: &S,
-    scratch: &mut Scratch,
+    memory: &mut [u8; 4096],
     out: &mut [u8; 8200],
 ) -> Option<usize>
     ensures { Offered 8200 (messaging_resource (S.OtelSpan.reading span.now)) result out.old out.new }
@@ -170,7 +172,7 @@ fn messaging_resource<S: OtelSpan>(
         span,
         &[MESSAGING_OPERATION_TYPE, MESSAGING_OPERATION],
         &[MESSAGING_DESTINATION, MESSAGING_DESTINATION_NAME],
-        scratch,
+        memory,
         out,
     )
 }
@@ -180,15 +182,15 @@ fn messaging_resource<S: OtelSpan>(
 pub fn get_otel_resource_v2<S: OtelSpan>(span: &S, out: &mut [u8; 8200]) -> usize
     ensures { Filled 8200 (resource_name (S.OtelSpan.reading span.now)) result out.new }
 {
-    let mut scratch = Scratch::new();
-    if let Some(n) = given_resource(span, &mut scratch, out) {
+    let mut memory = [0u8; 4096];
+    if let Some(n) = given_resource(span, &mut memory, out) {
         return n;
     }
-    if let Some(n) = http_resource(span, &mut scratch, out) {
+    if let Some(n) = http_resource(span, &mut memory, out) {
         return n;
     }
-    if let Some(n) = messaging_resource(span, &mut scratch, out) {
+    if let Some(n) = messaging_resource(span, &mut memory, out) {
         return n;
     }
-    resource_by_use(span, &mut scratch, out)
+    resource_by_use(span, &mut memory, out)
 }

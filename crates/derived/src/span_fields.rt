@@ -5,7 +5,7 @@ ghost use Rattle.readers.specs.Texts.{Filled};
 ghost use Rattle.derived.specs.Fields.{type_by_kind, span_type, environment, service_name, narrowed, code_under, status_code};
 
 use crate::db_types::check_db_type;
-use crate::texts::place;
+use crate::texts::{given_text, place};
 use blocks::span_kind::SpanKind;
 use names::attribute_keys::*;
 use readers::first_texts::get_res_attributes;
@@ -61,8 +61,7 @@ pub fn get_otel_env<S: OtelSpan>(span: &S, out: &mut [u8; 4096]) -> usize
 pub fn get_otel_service<S: OtelSpan>(span: &S, out: &mut [u8; 4096]) -> usize
     ensures { Filled 4096 (service_name (S.OtelSpan.reading span.now)) result out.new }
 {
-    let n = get_attr_str(span, SERVICE_NAME, out);
-    if n > 0 {
+    if let Some(n) = given_text(span, SERVICE_NAME, out) {
         return n;
     }
     let n = get_res_attributes(span, &[SERVICE_NAME], out);

@@ -1,7 +1,10 @@
 //! Texts composed in memory that holds them whole.
-ghost use Rattle.std.specs.Prelude.{◌≡◌, ◌+◌, ◌≤◌, ◌++◌, length};
+ghost use Rattle.std.specs.Prelude.{◌≡◌, ◌+◌, ◌<◌, ◌≤◌, ◌++◌, length};
+ghost use Rattle.lent_bytes.specs.Memory.{padded};
+ghost use Rattle.readers.specs.Reading.{size_of};
 ghost use Rattle.readers.specs.Texts.{Filled, span_text, first_span_text, places_of};
 ghost use Rattle.derived.specs.OperationName.{lowered};
+ghost use Rattle.derived.specs.Fields.{own_text};
 
 use lent_bytes::texts::{TextWriter, write_text};
 use names::attribute_keys::AttributeKey;
@@ -9,20 +12,20 @@ use readers::first_texts::get_span_attributes;
 use readers::otel_util::{OtelSpan, get_attr_str};
 use readers::texts::Text;
 
-/// Memory for two of a reader's texts.
-#[derive(Drop)]
-pub(crate) struct Scratch {
-    pub text: [u8; 4096],
-    pub other: [u8; 4096],
-}
-
-impl Scratch {
-    pub(crate) fn new() -> Scratch {
-        Scratch {
-            text: [0; 4096],
-            other: [0; 4096],
-        }
+/// A span's text at the front of `out`, if it is not empty; memory is written only if there may be one.
+pub(crate) fn given_text<S: OtelSpan>(
+    span: &S,
+    key: AttributeKey,
+    out: &mut [u8; 4096],
+) -> Option<usize>
+    ensures size { result ≡ size_of (own_text (S.OtelSpan.reading span.now) key.idx) }
+    ensures text { 0 < length (span_text (S.OtelSpan.reading span.now) key.idx) → out.new ≡ padded 4096 (span_text (S.OtelSpan.reading span.now) key.idx) }
+{
+    if !span.has_attr(key) {
+        return None;
     }
+    let n = get_attr_str(span, key, out);
+    if n > 0 { Some(n) } else { None }
 }
 
 /// A span's text in lower case, the empty one where it has none; memory is written only if it has one.
@@ -40,7 +43,8 @@ pub(crate) fn lower_text<'t, S: OtelSpan>(
     Text::lower_front(memory, n)
 }
 
-/// The first text of the span under the keys that is not empty, in lower case.
+/// The first text of the span under the keys that is not empty, in lower case; memory is written only if there may be
+/// one.
 pub(crate) fn lower_first<'t, S: OtelSpan>(
     span: &S,
     keys: &[AttributeKey],
@@ -48,6 +52,9 @@ pub(crate) fn lower_first<'t, S: OtelSpan>(
 ) -> Text<'t>
     ensures { result.bytes.now ≡ lowered (first_span_text (S.OtelSpan.reading span.now) (places_of keys.now)) }
 {
+    if !keys.iter().any(|key| span.has_attr(*key)) {
+        return Text::empty();
+    }
     let n = get_span_attributes(span, keys, memory);
     Text::lower_front(memory, n)
 }
