@@ -7,6 +7,7 @@ ghost use Rattle.derived.specs.Fields.{type_by_kind, span_type, environment, ser
 use crate::db_types::check_db_type;
 use crate::texts::{given_text, place};
 use blocks::span_kind::SpanKind;
+use lent_bytes::texts::write_text;
 use names::attribute_keys::*;
 use readers::first_texts::get_res_attributes;
 use readers::otel_util::{OtelSpan, get_attr_str, get_res_span_attributes};
@@ -24,7 +25,7 @@ fn client_type<S: OtelSpan>(span: &S, out: &mut [u8; 4096]) -> usize
         return place(out, b"http");
     }
     let span_type = check_db_type(Text::front(out, n).bytes);
-    place(out, span_type)
+    write_text(out, span_type)
 }
 
 /// The type of a span: the attribute of that name, or else by its kind.

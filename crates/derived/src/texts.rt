@@ -1,12 +1,13 @@
 //! Texts composed in memory that holds them whole.
-ghost use Rattle.std.specs.Prelude.{◌≡◌, ◌+◌, ◌<◌, ◌≤◌, ◌++◌, length};
+ghost use Rattle.std.specs.Prelude.{◌≡◌, ◌+◌, ◌<◌, ◌≤◌, ◌++◌, [], length};
 ghost use Rattle.lent_bytes.specs.Memory.{padded};
 ghost use Rattle.readers.specs.Reading.{size_of};
 ghost use Rattle.readers.specs.Texts.{Filled, span_text, first_span_text, places_of};
 ghost use Rattle.derived.specs.OperationName.{lowered};
 ghost use Rattle.derived.specs.Fields.{own_text};
 
-use lent_bytes::texts::{TextWriter, write_text};
+use lent_bytes::memory::write;
+use lent_bytes::texts::TextWriter;
 use names::attribute_keys::AttributeKey;
 use readers::first_texts::get_span_attributes;
 use readers::otel_util::{OtelSpan, get_attr_str};
@@ -73,10 +74,12 @@ pub(crate) fn compose(out: &mut [u8; 8200], a: &[u8], b: &[u8], c: &[u8], d: &[u
     text.finish()
 }
 
-/// A text at the front of `out`, zeros behind.
+/// A text at the front of `out`, which is clear: there is nothing to be cleared behind.
 pub(crate) fn place(out: &mut [u8; 4096], text: &[u8]) -> usize
-    requires { length text.now ≤ 4096 }
+    requires clear { out.old ≡ padded 4096 [] }
+    requires short { length text.now ≤ 4096 }
     ensures { Filled 4096 text.now result out.new }
 {
-    write_text(out, text)
+    write(out, 0, text);
+    text.len()
 }
