@@ -48,14 +48,3 @@ later_edition r =
       span = λ k. cond (is_database_key k) (option_map earlier_known (r.span k)) (r.span k);
       resource = λ k. cond (is_database_key k) (option_map earlier_text (r.resource k)) (r.resource k);
     }
-
--- layers one on the other, the first on top
-pub data Layer : Type 0 where
-  later_layer : Layer
-
-abbrev pub under : Layer → Reading → Reading
-under later_layer r = later_edition r
-
-abbrev pub piled : List Layer → Reading → Reading
-piled [] r = r
-piled (l ∷ ls) r = under l (piled ls r)
