@@ -1,6 +1,6 @@
 //! Bytes cut at a byte: into lines, words and elements.
 ghost use Rattle.std.specs.Prelude.{◌≡◌, ℕ, List, ◌<◌, ◌≤◌, length, ◌≢◌, slice_index};
-ghost use Rattle.notation.specs.Cuts.{Lacks, Joins, is_no_content};
+ghost use Rattle.notation.specs.Cuts.{Lacks, Joins, FirstWord, is_no_content};
 ghost use Rattle.std.specs.Iterator.{at_most};
 ghost use Rattle.std.specs.Str.{IsTrimAsciiStart};
 
@@ -16,7 +16,10 @@ pub fn cut(text: &[u8], b: u8) -> (&[u8], Option<&[u8]>)
 }
 
 /// The first word, and what follows the spaces behind it.
-pub fn word(text: &[u8]) -> (&[u8], &[u8]) {
+pub fn word(text: &[u8]) -> (&[u8], &[u8])
+    ensures lacks { Lacks 32 result.0.now }
+    ensures word { FirstWord text.now result.0.now result.1.now }
+{
     let (word, rest) = cut(text, b' ');
     (word, rest.unwrap_or(b"").trim_ascii_start())
 }
@@ -48,7 +51,9 @@ pub struct Lines<'a> {
 }
 
 impl<'a> Lines<'a> {
-    pub fn new(input: &'a [u8]) -> Lines<'a> {
+    pub fn new(input: &'a [u8]) -> Lines<'a>
+        ensures { result.rest.now ≡ input.now }
+    {
         Lines {
             read: 0,
             rest: input,
