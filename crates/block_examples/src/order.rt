@@ -130,6 +130,14 @@ fn owners(rt: HostRuntime) {
     }
 }
 
+/// An attribute of the resource whose display text is a byte too long.
+const LONG: Placed = Placed {
+    list: 1,
+    value: 10,
+    value_length: 4097,
+    ..ROW
+};
+
 // Of a value its form, its bytes and its display text, and then a key that the resource has.
 #[test]
 fn value(rt: HostRuntime) -> Result<(), Fail> {
@@ -137,12 +145,7 @@ fn value(rt: HostRuntime) -> Result<(), Fail> {
     let m = &mut v[..];
     put_header(m, 3, 4200);
     put_row(m, 0, row_of(1));
-    let long = Placed {
-        value: 10,
-        value_length: 4097,
-        ..row_of(1)
-    };
-    put_row(m, 1, long);
+    put_row(m, 1, LONG);
     put_row(m, 2, BAD);
     write(m, 300, b"\xff");
     // The time of an attribute is not zero.
@@ -157,7 +160,7 @@ fn value(rt: HostRuntime) -> Result<(), Fail> {
         1,
         Placed {
             value_length: 4096,
-            ..long
+            ..LONG
         },
     );
     assert_eq!(rt; refusal(m), at(10, 1, 2));

@@ -35,62 +35,32 @@ fn refused_starts(rt: HostRuntime) {
     assert_eq!(rt; left(&mut m, &start, 7), (13, true));
 }
 
+/// The number of a start with these texts in memory that has room for none, and whether it left the memory as it was.
+fn texts_left(
+    name: &'static [u8],
+    trace_state: &'static [u8],
+    scope_name: &'static [u8],
+    scope_version: &'static [u8],
+) -> (u8, bool) {
+    let mut m = [7u8; 120];
+    let start = Start {
+        name,
+        trace_state,
+        scope_name,
+        scope_version,
+        ..start_of(0)
+    };
+    left(&mut m, &start, 7)
+}
+
 // Of each text its length before its bytes, and both before the next text; the last of them before the room.
 #[test]
 fn texts_of_starts(rt: HostRuntime) {
-    let mut m = [7u8; 120];
-    let start = start_of(0);
-    let state = Start {
-        trace_state: text(513),
-        ..start
-    };
-    let scope = Start {
-        scope_name: text(256),
-        ..start
-    };
-    let version = Start {
-        scope_version: text(256),
-        ..start
-    };
     for (n, number) in [(1, 5), (513, 4)] {
-        let name = broken(n);
-        assert_eq!(rt; left(&mut m, &Start { name, ..state }, 7), (number, true));
-        let trace_state = broken(n);
-        assert_eq!(rt;
-            left(
-                &mut m,
-                &Start {
-                    trace_state,
-                    ..scope
-                },
-                7
-            ),
-            (number, true)
-        );
-        let scope_name = broken(n);
-        assert_eq!(rt;
-            left(
-                &mut m,
-                &Start {
-                    scope_name,
-                    ..version
-                },
-                7
-            ),
-            (number, true)
-        );
-        let scope_version = broken(n);
-        assert_eq!(rt;
-            left(
-                &mut m,
-                &Start {
-                    scope_version,
-                    ..start
-                },
-                7
-            ),
-            (number, true)
-        );
+        assert_eq!(rt; texts_left(broken(n), text(513), b"", b""), (number, true));
+        assert_eq!(rt; texts_left(b"", broken(n), text(256), b""), (number, true));
+        assert_eq!(rt; texts_left(b"", b"", broken(n), text(256)), (number, true));
+        assert_eq!(rt; texts_left(b"", b"", b"", broken(n)), (number, true));
     }
 }
 
