@@ -1,6 +1,7 @@
 pub mod Calls
 pub mod Held
 pub mod Refused
+pub mod Messages
 pub mod Search
 pub mod Writes
 pub mod Memory

@@ -1,11 +1,16 @@
 //! What answers mean, in words.
+ghost use Rattle.std.specs.Prelude.{◌≡◌, Some};
+ghost use Rattle.drafts.specs.Messages.{applied_message, text_meaning, refusal_message, start_message};
+
 use crate::refusal::{Applied, Refusal, StartFault};
 use blocks::faults::TextFault;
 use std::fmt;
 use values::check::ValueFault;
 
 /// What is wrong with a text that was handed in. A block's own words speak of its place as well.
-fn text_meaning(fault: TextFault) -> &'static str {
+fn text_meaning(fault: TextFault) -> &'static str
+    ensures { result.now ≡ text_meaning fault }
+{
     match fault {
         TextFault::Place => "the text is too long",
         TextFault::NotUtf8 => "the text is not UTF-8",
@@ -13,6 +18,8 @@ fn text_meaning(fault: TextFault) -> &'static str {
 }
 
 impl fmt::Display for Applied {
+    ghost output = { λ a. Some (applied_message a) };
+
     fn fmt<W: fmt::Write>(&self, f: &mut fmt::Formatter<W>) -> fmt::Result {
         f.pad(match self {
             Applied::Changed => "applied",
@@ -22,6 +29,8 @@ impl fmt::Display for Applied {
 }
 
 impl fmt::Display for Refusal {
+    ghost output = { λ a. Some (refusal_message a) };
+
     fn fmt<W: fmt::Write>(&self, f: &mut fmt::Formatter<W>) -> fmt::Result {
         f.pad(match self {
             Refusal::List => "no attributes go to this list",
@@ -44,6 +53,8 @@ impl fmt::Display for Refusal {
 }
 
 impl fmt::Display for StartFault {
+    ghost output = { λ a. Some (start_message a) };
+
     fn fmt<W: fmt::Write>(&self, f: &mut fmt::Formatter<W>) -> fmt::Result {
         f.pad(match self {
             StartFault::Kind => "the kind is none from 1 to 5",

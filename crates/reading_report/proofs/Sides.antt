@@ -1,5 +1,5 @@
 -- A text at the front of memory, read back.
-use Rattle.std.proofs.Common.{◌≡◌, ℕ, List, Some, None, Option, refl, ap, sym, ◌∙◌}
+use Rattle.std.proofs.Common.{◌≡◌, ℕ, List, Some, None, Option, refl, ap, ◌∙◌}
 use Rattle.std.specs.Option.{option_map}
 use Rattle.lent_bytes.specs.Memory.{portion, padded}
 use Rattle.readers.specs.Reading.{bytes_of, size_of}

@@ -1,5 +1,5 @@
 //! The six fields, by name.
-ghost use Rattle.std.specs.Prelude.{◌≡◌};
+ghost use Rattle.std.specs.Prelude.{◌≡◌, Some};
 ghost use Rattle.reading_report.specs.Names.{field_word, field_in, NamesReadBack};
 
 use crate::token::Token;
@@ -59,6 +59,8 @@ impl Field {
 }
 
 impl fmt::Display for Field {
+    ghost output = { λ f. Some (field_word f) };
+
     fn fmt<W: fmt::Write>(&self, f: &mut fmt::Formatter<W>) -> fmt::Result {
         f.pad(self.name())
     }

@@ -1,7 +1,7 @@
 //! Whether bytes are a value of their kind.
 ghost use Rattle.std.specs.Prelude.{◌≡◌, length, IfOk, Some, nat_lt};
 ghost use Rattle.std.specs.Result.{result_err};
-ghost use Rattle.values.specs.Faults.{fault_number, value_fault};
+ghost use Rattle.values.specs.Faults.{fault_number, fault_message, value_fault};
 ghost use Rattle.values.specs.Format.{alone_formed, formed, meant, value_of};
 ghost use Rattle.values.specs.Shown.{display, datum_readable};
 ghost use Rattle.values.specs.declared.check.ValueFault.TheVariants.{Form};
@@ -108,6 +108,8 @@ pub fn check(kind: u8, bytes: &[u8]) -> Result<Value<'_>, ValueFault>
 }
 
 impl fmt::Display for ValueFault {
+    ghost output = { λ f. Some (fault_message f) };
+
     fn fmt<W: fmt::Write>(&self, f: &mut fmt::Formatter<W>) -> fmt::Result {
         f.pad(match self {
             ValueFault::Form => "the bytes do not have the form of the kind",

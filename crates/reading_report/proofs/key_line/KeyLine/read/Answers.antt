@@ -1,4 +1,3 @@
-use Rattle.std.proofs.Common.{rules}
 use Rattle.reading_report.proofs.Sides.{side-read}
 use Rattle.reading_report.proofs.key_line.KeyLine.read.Goals as goal
 
