@@ -6,12 +6,12 @@ mod command;
 mod fault;
 mod fields;
 mod opening;
+mod replay;
 mod report;
 mod said;
-mod session;
 mod words;
 
-use crate::session::make_calls;
+use crate::replay::make_calls;
 use notation::source::Source;
 use notation::tally::{Summary, Tally};
 use std::{env, io};

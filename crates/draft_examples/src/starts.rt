@@ -57,58 +57,38 @@ fn kinds(rt: HostRuntime) {
     );
 }
 
+/// A start with these texts.
+fn with_texts<'t>(
+    name: &'t [u8],
+    trace_state: &'t [u8],
+    scope_name: &'t [u8],
+    scope_version: &'t [u8],
+) -> Start<'t> {
+    Start {
+        name,
+        trace_state,
+        scope_name,
+        scope_version,
+        ..start_of(0)
+    }
+}
+
 // The longest texts, and each a byte longer.
 #[test]
 fn texts(rt: HostRuntime) {
     let mut m = [7u8; 2000];
-    let longest = Start {
-        name: text(255),
-        trace_state: text(512),
-        scope_name: text(255),
-        scope_version: text(255),
-        ..start_of(0)
-    };
-    assert_eq!(rt;
-        [
-            start_number(&mut m, &longest),
-            start_number(
-                &mut m,
-                &Start {
-                    name: text(256),
-                    ..longest
-                },
-            ),
-            start_number(
-                &mut m,
-                &Start {
-                    trace_state: text(513),
-                    ..longest
-                },
-            ),
-            start_number(
-                &mut m,
-                &Start {
-                    scope_name: text(256),
-                    ..longest
-                },
-            ),
-            start_number(
-                &mut m,
-                &Start {
-                    scope_version: text(256),
-                    ..longest
-                },
-            ),
-            start_number(
-                &mut m,
-                &Start {
-                    scope_version: b"\xff",
-                    ..longest
-                },
-            ),
-        ],
-        [0, 4, 4, 4, 4, 5]
-    );
+    let longest = with_texts(text(255), text(512), text(255), text(255));
+    assert_eq!(rt; start_number(&mut m, &longest), 0);
+    let long_name = with_texts(text(256), text(512), text(255), text(255));
+    assert_eq!(rt; start_number(&mut m, &long_name), 4);
+    let long_state = with_texts(text(255), text(513), text(255), text(255));
+    assert_eq!(rt; start_number(&mut m, &long_state), 4);
+    let long_scope = with_texts(text(255), text(512), text(256), text(255));
+    assert_eq!(rt; start_number(&mut m, &long_scope), 4);
+    let long_version = with_texts(text(255), text(512), text(255), text(256));
+    assert_eq!(rt; start_number(&mut m, &long_version), 4);
+    let no_text = with_texts(text(255), text(512), text(255), b"\xff");
+    assert_eq!(rt; start_number(&mut m, &no_text), 5);
 }
 
 // The texts fill the memory, and do so with a byte too many.
