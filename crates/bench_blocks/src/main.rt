@@ -11,8 +11,8 @@ use lent_bytes::memory::{part, write};
 use std::time::Instant;
 use timing::{PerByte, nanos_a_turn};
 
-/// A block of so many attributes in each of its three plain lists and under each of its events, with keys of
-/// equal length that differ in their last two bytes alone, so that each comparison goes to the end.
+/// A block of so many attributes in each of its three plain lists, and so many events with 127 attributes each. Keys
+/// are of equal length and differ in their last two bytes alone, so that each comparison goes to the end.
 #[derive(Clone, Copy)]
 struct Shape {
     name: &'static str,

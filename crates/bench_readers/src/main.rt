@@ -113,8 +113,8 @@ fn put_rows(m: &mut [u8], others: u16, statement: u32) {
     put_row(m, others.saturating_add(1), asked);
 }
 
-/// Writes the block, and answers its length. Its rows share two keys and are no rows of `bench_blocks`, whose keys all
-/// differ.
+/// Writes the block, and answers its length. Rows with an unknown key all have the same one; those of `bench_blocks` have
+/// keys that differ within a list.
 fn put_block(m: &mut [u8], shape: Shape) -> usize {
     let others = shape.others.min(1000);
     let statement = shape.statement.min(4096);

@@ -2,7 +2,7 @@
 use names::attribute_keys::{AttributeKey, attribute_keys, get_attribute_idx};
 use notation::cut::word;
 use readers::otel_util::OtelSpan;
-use reading_report::field::{Derived, Field};
+use reading_report::field::{Field, FieldTexts};
 use reading_report::key_line::{KeyLine, KeyTexts};
 use std::fmt;
 
@@ -59,7 +59,10 @@ impl<S: OtelSpan> fmt::Display for Shown<'_, S> {
                 let mut texts = KeyTexts::new();
                 write!(f, "{}", KeyLine::read(span, key, &mut texts))
             }
-            Answer::Field(field) => write!(f, "{field} {}", Derived { span, field }),
+            Answer::Field(field) => {
+                let mut texts = FieldTexts::new();
+                write!(f, "{field} {}", field.read(span, &mut texts))
+            }
         }
     }
 }

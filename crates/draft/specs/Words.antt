@@ -2,6 +2,7 @@
 use Rattle.std.specs.Prelude.{◌≡◌, ℕ, List, [], ◌∷◌, Some, codes, Option}
 use Rattle.std.specs.List.{find}
 use Rattle.std.specs.Str.{bytes_eq}
+use Rattle.blocks.specs.Names.{kind_name, status_name}
 use Rattle.blocks.specs.declared.lists.List.{List as ListCase}
 use Rattle.blocks.specs.declared.lists.List.TheVariants.{Span, Resource, Scope, Event, EventAttribute, Link, LinkAttribute}
 use Rattle.blocks.specs.declared.span_kind.SpanKind.{SpanKind}
@@ -9,7 +10,7 @@ use Rattle.blocks.specs.declared.span_kind.SpanKind.TheVariants.{Internal, Serve
 use Rattle.blocks.specs.declared.span_kind.StatusCode.{StatusCode}
 use Rattle.blocks.specs.declared.span_kind.StatusCode.TheVariants.{Unset, Ok, Error}
 
--- the word of each, and what a word names: each word names what it is the word of
+-- Of kinds and statuses the words are those that they print. Each word names what it is the word of.
 abbrev pub word_of_list : ListCase → List ℕ
 word_of_list Span = codes "span"
 word_of_list Resource = codes "resource"
@@ -26,27 +27,15 @@ list_in word =
 abbrev pub ListsReadBack : Type 0
 ListsReadBack = (l : ListCase) → list_in (word_of_list l) ≡ Some l
 
-abbrev pub word_of_kind : SpanKind → List ℕ
-word_of_kind Internal = codes "internal"
-word_of_kind Server = codes "server"
-word_of_kind Client = codes "client"
-word_of_kind Producer = codes "producer"
-word_of_kind Consumer = codes "consumer"
-
 abbrev pub span_kind_in : List ℕ → Option SpanKind
 span_kind_in word =
-    find (λ k. bytes_eq (word_of_kind k) word) (Internal ∷ Server ∷ Client ∷ Producer ∷ Consumer ∷ [])
+    find (λ k. bytes_eq (kind_name k) word) (Internal ∷ Server ∷ Client ∷ Producer ∷ Consumer ∷ [])
 
 abbrev pub KindsReadBack : Type 0
-KindsReadBack = (k : SpanKind) → span_kind_in (word_of_kind k) ≡ Some k
-
-abbrev pub word_of_status : StatusCode → List ℕ
-word_of_status Unset = codes "unset"
-word_of_status Ok = codes "ok"
-word_of_status Error = codes "error"
+KindsReadBack = (k : SpanKind) → span_kind_in (kind_name k) ≡ Some k
 
 abbrev pub status_in : List ℕ → Option StatusCode
-status_in word = find (λ s. bytes_eq (word_of_status s) word) (Unset ∷ Ok ∷ Error ∷ [])
+status_in word = find (λ s. bytes_eq (status_name s) word) (Unset ∷ Ok ∷ Error ∷ [])
 
 abbrev pub StatusesReadBack : Type 0
-StatusesReadBack = (s : StatusCode) → status_in (word_of_status s) ≡ Some s
+StatusesReadBack = (s : StatusCode) → status_in (status_name s) ≡ Some s

@@ -177,13 +177,13 @@ fn begin(
 ) -> io::Result<()> {
     match command {
         Command::Start(opening) => lend(rt, &opening, lines, tally),
-        Command::Call(_said) => print_none(rt, tally),
-        Command::End { .. } | Command::Discard => print_none(rt, tally),
+        Command::Call(_said) => print_no_draft(rt, tally),
+        Command::End { .. } | Command::Discard => print_no_draft(rt, tally),
     }
 }
 
-/// Prints of a call that there is no draft to make it on.
-fn print_none(rt: &HostRuntime, tally: &mut Tally) -> io::Result<()> {
+/// Prints that there is no draft for a call.
+fn print_no_draft(rt: &HostRuntime, tally: &mut Tally) -> io::Result<()> {
     tally.count(false);
     print_row(rt, "answer", "no draft is open")
 }

@@ -60,7 +60,7 @@ impl Said {
         Ok(Said::Event { title, time })
     }
 
-    /// `"trace state" HEX`
+    /// `"trace state" BYTES`
     pub fn link(fields: Fields<'_>) -> Result<Said, CallFault> {
         let mut fields = fields;
         let trace_state = fields.text()?;

@@ -1,6 +1,7 @@
 //! The words that name lists, kinds of spans and statuses.
 ghost use Rattle.std.specs.Prelude.{◌≡◌};
-ghost use Rattle.draft.specs.Words.{word_of_list, list_in, ListsReadBack, word_of_kind, span_kind_in, KindsReadBack, word_of_status, status_in, StatusesReadBack};
+ghost use Rattle.blocks.specs.Names.{kind_name, status_name};
+ghost use Rattle.draft.specs.Words.{word_of_list, list_in, ListsReadBack, span_kind_in, KindsReadBack, status_in, StatusesReadBack};
 
 use blocks::lists::List;
 use blocks::span_kind::{SpanKind, StatusCode};
@@ -52,7 +53,7 @@ pub fn list_named(word: &[u8]) -> Option<List>
 }
 
 fn span_kind_word(kind: SpanKind) -> &'static str
-    ensures { result.now ≡ word_of_kind kind }
+    ensures { result.now ≡ kind_name kind }
 {
     match kind {
         SpanKind::Internal => "internal",
@@ -75,7 +76,7 @@ pub fn span_kind_named(word: &[u8]) -> Option<SpanKind>
 }
 
 fn status_word(status: StatusCode) -> &'static str
-    ensures { result.now ≡ word_of_status status }
+    ensures { result.now ≡ status_name status }
 {
     match status {
         StatusCode::Unset => "unset",

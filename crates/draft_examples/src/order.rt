@@ -1,4 +1,4 @@
-//! Of two refusals that hold the first is answered.
+//! Where two refusals hold, the first is answered.
 use crate::made::{
     broken, event, fill_list, last_number, link, rename, set, start_of, status, text,
 };

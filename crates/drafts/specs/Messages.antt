@@ -1,5 +1,6 @@
 -- What answers say to a reader.
 use Rattle.std.specs.Prelude.{ℕ, List as Bytes, codes}
+use Rattle.values.specs.Faults.{fault_message}
 use Rattle.values.specs.declared.check.ValueFault.TheVariants.{Form, NotUtf8 as ValueNotUtf8, TooLong}
 use Rattle.blocks.specs.declared.faults.TextFault.{TextFault}
 use Rattle.blocks.specs.declared.faults.TextFault.TheVariants.{Place, NotUtf8}
@@ -22,11 +23,11 @@ text_meaning NotUtf8 = codes "the text is not UTF-8"
 abbrev pub refusal_message : Refusal → Bytes ℕ
 refusal_message List = codes "no attributes go to this list"
 refusal_message Owner = codes "no event or link that it would belong to"
-refusal_message Key = codes "the key has not from 1 to 255 bytes"
+refusal_message Key = codes "the key does not have 1 to 255 bytes"
 refusal_message KeyNotUtf8 = codes "the key is not UTF-8"
-refusal_message (Value Form) = codes "the value does not have the form of its kind, or a link's not 25 bytes"
-refusal_message (Value ValueNotUtf8) = codes "a text in the value is not UTF-8"
-refusal_message (Value TooLong) = codes "the display text has over 4,096 bytes"
+refusal_message (Value Form) = codes "the value does not have the form of its kind, or a link's value not 25 bytes"
+refusal_message (Value ValueNotUtf8) = fault_message ValueNotUtf8
+refusal_message (Value TooLong) = fault_message TooLong
 refusal_message (Text f) = text_meaning f
 refusal_message ListFull = codes "the list has 128 rows"
 refusal_message RowsFull = codes "every row is in use"
@@ -34,7 +35,7 @@ refusal_message NoRoom = codes "the new text does not fit"
 refusal_message Status = codes "the status is above 2"
 
 abbrev pub start_message : StartFault → Bytes ℕ
-start_message Kind = codes "the kind is none from 1 to 5"
-start_message Memory = codes "not from 120 to 65,536 bytes, or no place for so many rows"
+start_message Kind = codes "the kind is not from 1 to 5"
+start_message Memory = codes "the memory does not have 120 to 65,536 bytes, or no place for so many rows"
 start_message (StartText f) = text_meaning f
 start_message StartNoRoom = codes "the texts do not fit behind the rows"

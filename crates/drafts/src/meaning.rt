@@ -35,14 +35,13 @@ impl fmt::Display for Refusal {
         f.pad(match self {
             Refusal::List => "no attributes go to this list",
             Refusal::Owner => "no event or link that it would belong to",
-            Refusal::Key => "the key has not from 1 to 255 bytes",
+            Refusal::Key => "the key does not have 1 to 255 bytes",
             Refusal::KeyNotUtf8 => "the key is not UTF-8",
             // Of a call this fault says more than of bytes alone.
             Refusal::Value(ValueFault::Form) => {
-                "the value does not have the form of its kind, or a link's not 25 bytes"
+                "the value does not have the form of its kind, or a link's value not 25 bytes"
             }
-            Refusal::Value(ValueFault::NotUtf8) => "a text in the value is not UTF-8",
-            Refusal::Value(ValueFault::TooLong) => "the display text has over 4,096 bytes",
+            Refusal::Value(fault) => return fault.fmt(f),
             Refusal::Text(fault) => text_meaning(*fault),
             Refusal::ListFull => "the list has 128 rows",
             Refusal::RowsFull => "every row is in use",
@@ -57,8 +56,9 @@ impl fmt::Display for StartFault {
 
     fn fmt<W: fmt::Write>(&self, f: &mut fmt::Formatter<W>) -> fmt::Result {
         f.pad(match self {
-            StartFault::Kind => "the kind is none from 1 to 5",
-            StartFault::Memory => "not from 120 to 65,536 bytes, or no place for so many rows",
+            StartFault::Kind => "the kind is not from 1 to 5",
+            StartFault::Memory =>
+                "the memory does not have 120 to 65,536 bytes, or no place for so many rows",
             StartFault::Text(fault) => text_meaning(*fault),
             StartFault::NoRoom => "the texts do not fit behind the rows",
         })

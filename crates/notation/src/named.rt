@@ -13,7 +13,7 @@ pub enum Notation {
 }
 
 impl Notation {
-    /// The notation that a line's second word names; the name of each kind is read as that kind.
+    /// The notation that a word names; the name of each kind is read as that kind.
     pub fn named(name: &[u8]) -> Option<Notation>
         ensures value { result ≡ notation_of name.now }
         ensures back { NamesReadBack }

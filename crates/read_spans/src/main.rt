@@ -9,7 +9,7 @@ use names::attribute_keys::attribute_keys;
 use notation::cut::{Line, Lines};
 use notation::hex::read_bytes;
 use readers::otel_util::OtelSpan;
-use reading_report::field::{Derived, FIELDS};
+use reading_report::field::{FIELDS, FieldTexts};
 use reading_report::key_line::{KeyLine, KeyTexts};
 use span_args::span_extract_args::SpanExtractArgs;
 use std::io::Read;
@@ -28,10 +28,12 @@ fn print_keys<S: OtelSpan>(rt: &HostRuntime, span: &S) -> anyhow::Result<()> {
 
 /// Prints the six fields of two readers side by side.
 fn print_fields<A: OtelSpan, B: OtelSpan>(rt: &HostRuntime, a: &A, b: &B) -> anyhow::Result<()> {
+    let mut one = FieldTexts::new();
+    let mut other = FieldTexts::new();
     for field in FIELDS {
-        let one = Derived { span: a, field };
-        let other = Derived { span: b, field };
-        println!(rt; "{field} {one} {other}")?;
+        let of_a = field.read(a, &mut one);
+        let of_b = field.read(b, &mut other);
+        println!(rt; "{field} {of_a} {of_b}")?;
     }
     Ok(())
 }

@@ -10,12 +10,12 @@ const NONE: [bool; 6] = [false; 6];
 
 const SERVICE: &[u8] = b"otlpresourcenoservicename";
 
-// What a span of a client says, but for what is given.
-fn client(name: &'static [u8], resource: &'static [u8], kind: &'static [u8]) -> Six {
+// The fields that are wanted, with neither a service nor an environment nor a code.
+fn wanted(name: &'static [u8], resource: &'static [u8], span_type: &'static [u8]) -> Six {
     Six {
         name,
         resource,
-        kind,
+        span_type,
         service: SERVICE,
         env: b"",
         code: 0,
@@ -43,7 +43,7 @@ fn wrong(
 // The type goes by the exact name, the operation name is in lower case.
 #[test]
 fn a_database_client(rt: HostRuntime) {
-    let want = client(b"postgresql.query", b"load", b"db");
+    let want = wanted(b"postgresql.query", b"load", b"db");
     let rows = [on_span(b"db.system", b"PostgreSQL")];
     assert_eq!(rt;
         wrong(SpanKind::Client, b"load", &rows, want, want),
@@ -53,7 +53,7 @@ fn a_database_client(rt: HostRuntime) {
 
 #[test]
 fn a_server_with_a_method_alone(rt: HostRuntime) {
-    let want = client(b"http.server.request", b"GET", b"web");
+    let want = wanted(b"http.server.request", b"GET", b"web");
     let rows = [on_span(b"http.request.method", b"GET")];
     assert_eq!(rt;
         wrong(SpanKind::Server, b"flash", &rows, want, want),
@@ -64,7 +64,7 @@ fn a_server_with_a_method_alone(rt: HostRuntime) {
 // An empty text on the span ends the walk over the keys, so the older method does not count.
 #[test]
 fn an_empty_method(rt: HostRuntime) {
-    let want = client(b"http.client.request", b"flash", b"http");
+    let want = wanted(b"http.client.request", b"flash", b"http");
     let rows = [
         on_span(b"http.request.method", b""),
         on_span(b"http.method", b"GET"),
@@ -78,7 +78,7 @@ fn an_empty_method(rt: HostRuntime) {
 // On the resource it does not.
 #[test]
 fn an_empty_method_of_the_resource(rt: HostRuntime) {
-    let want = client(b"http.client.request", b"GET", b"http");
+    let want = wanted(b"http.client.request", b"GET", b"http");
     let rows = [
         on_resource(b"http.request.method", b""),
         on_span(b"http.method", b"GET"),
@@ -91,8 +91,8 @@ fn an_empty_method_of_the_resource(rt: HostRuntime) {
 
 #[test]
 fn a_later_database(rt: HostRuntime) {
-    let want = client(b"microsoft.sql_server.query", b"load", b"db");
-    let later = client(b"mssql.query", b"load", b"sql");
+    let want = wanted(b"microsoft.sql_server.query", b"load", b"db");
+    let later = wanted(b"mssql.query", b"load", b"sql");
     let rows = [on_span(b"db.system.name", b"microsoft.sql_server")];
     assert_eq!(rt;
         wrong(SpanKind::Client, b"load", &rows, want, later),
@@ -118,7 +118,7 @@ fn own_attributes(rt: HostRuntime) {
     let want = Six {
         name: b"N",
         resource: b"R",
-        kind: b"custom",
+        span_type: b"custom",
         service: b"S",
         env: b"E",
         code: 200,
@@ -142,7 +142,7 @@ fn a_message(rt: HostRuntime) {
     let want = Six {
         name: b"kafka.process",
         resource: b"Process orders",
-        kind: b"custom",
+        span_type: b"custom",
         service: b"shop",
         env: b"prod",
         code: 0,
@@ -157,7 +157,7 @@ fn a_message(rt: HostRuntime) {
 #[test]
 fn a_name_alone(rt: HostRuntime) {
     let bare = Bare { name: b"flash" };
-    let want = client(b"internal", b"flash", b"custom");
+    let want = wanted(b"internal", b"flash", b"custom");
     assert_eq!(rt; others(&bare, want), NONE);
     assert_eq!(rt;
         others(&LaterEdition::new(LaterEdition::new(bare)), want),

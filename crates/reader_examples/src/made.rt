@@ -106,7 +106,7 @@ pub fn resource_says<S: OtelSpan>(span: &S, key: AttributeKey, want: Option<&[u8
 pub struct Six {
     pub name: &'static [u8],
     pub resource: &'static [u8],
-    pub kind: &'static [u8],
+    pub span_type: &'static [u8],
     pub service: &'static [u8],
     pub env: &'static [u8],
     pub code: u32,
@@ -121,7 +121,7 @@ pub fn others<S: OtelSpan>(span: &S, want: Six) -> [bool; 6] {
     let resource = part(&long, 0, n) == want.resource;
     let mut short = [7u8; 4096];
     let n = datadog_type(span, &mut short);
-    let kind = holds(&short, Some(n), Some(want.kind));
+    let span_type = holds(&short, Some(n), Some(want.span_type));
     let n = datadog_service(span, &mut short);
     let service = holds(&short, Some(n), Some(want.service));
     let n = datadog_env(span, &mut short);
@@ -129,7 +129,7 @@ pub fn others<S: OtelSpan>(span: &S, want: Six) -> [bool; 6] {
     [
         !name,
         !resource,
-        !kind,
+        !span_type,
         !service,
         !env,
         datadog_status_code(span) != want.code,

@@ -1,6 +1,6 @@
 //! The six fields, by name.
 ghost use Rattle.std.specs.Prelude.{◌≡◌, Some};
-ghost use Rattle.reading_report.specs.Names.{field_word, field_in, NamesReadBack};
+ghost use Rattle.reading_report.specs.Names.{field_word, field_in, NamesReadBack, said, field_said};
 
 use crate::token::Token;
 use derived::fields::{
@@ -66,42 +66,67 @@ impl fmt::Display for Field {
     }
 }
 
-/// A field as a reader gives it.
+/// Memory for the text of a field.
 #[derive(Drop)]
-pub struct Derived<'s, S> {
-    pub span: &'s S,
-    pub field: Field,
+pub struct FieldTexts {
+    composed: [u8; 8200],
+    text: [u8; 4096],
 }
 
-impl<S: OtelSpan> Derived<'_, S> {
-    /// Writes a field that may be composed.
-    fn write_long<W: fmt::Write>(&self, f: &mut fmt::Formatter<W>) -> fmt::Result {
-        let mut out = [0u8; 8200];
-        let len = match self.field {
-            Field::Name => datadog_name(self.span, &mut out),
-            _ => datadog_resource(self.span, &mut out),
-        };
-        Token(part(&out, 0, len)).fmt(f)
-    }
-
-    /// Writes another text.
-    fn write_short<W: fmt::Write>(&self, f: &mut fmt::Formatter<W>) -> fmt::Result {
-        let mut out = [0u8; 4096];
-        let len = match self.field {
-            Field::SpanType => datadog_type(self.span, &mut out),
-            Field::Service => datadog_service(self.span, &mut out),
-            _ => datadog_env(self.span, &mut out),
-        };
-        Token(part(&out, 0, len)).fmt(f)
+impl FieldTexts {
+    pub fn new() -> FieldTexts {
+        FieldTexts {
+            composed: [0; 8200],
+            text: [0; 4096],
+        }
     }
 }
 
-impl<S: OtelSpan> fmt::Display for Derived<'_, S> {
+/// What a reader gives for a field.
+#[derive(Clone, Copy)]
+pub enum FieldValue<'t> {
+    Text(&'t [u8]),
+    /// A status code, 0 for none.
+    Code(u32),
+}
+
+impl fmt::Display for FieldValue<'_> {
     fn fmt<W: fmt::Write>(&self, f: &mut fmt::Formatter<W>) -> fmt::Result {
-        match self.field {
-            Field::Name | Field::Resource => self.write_long(f),
-            Field::StatusCode => datadog_status_code(self.span).fmt(f),
-            _ => self.write_short(f),
+        match self {
+            FieldValue::Text(text) => Token(text).fmt(f),
+            FieldValue::Code(code) => code.fmt(f),
+        }
+    }
+}
+
+impl Field {
+    /// What a reader gives for the field; a text is put into `texts`.
+    pub fn read<'t, S: OtelSpan>(self, span: &S, texts: &'t mut FieldTexts) -> FieldValue<'t>
+        ensures { said result ≡ field_said self (S.OtelSpan.reading span.now) }
+    {
+        let FieldTexts { composed, text } = texts;
+        match self {
+            Field::Name => {
+                let len = datadog_name(span, composed);
+                FieldValue::Text(part(composed, 0, len))
+            }
+            Field::Resource => {
+                let len = datadog_resource(span, composed);
+                FieldValue::Text(part(composed, 0, len))
+            }
+            Field::SpanType => {
+                let len = datadog_type(span, text);
+                FieldValue::Text(part(text, 0, len))
+            }
+            Field::Service => {
+                let len = datadog_service(span, text);
+                FieldValue::Text(part(text, 0, len))
+            }
+            Field::Environment => {
+                let len = datadog_env(span, text);
+                FieldValue::Text(part(text, 0, len))
+            }
+            Field::StatusCode => FieldValue::Code(datadog_status_code(span)),
         }
     }
 }
