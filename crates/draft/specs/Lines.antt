@@ -1,4 +1,5 @@
 -- What a line says to a draft.
+use Rattle.std.specs.Prelude.{ℕ, List, codes}
 use Rattle.drafts.specs.Calls.{Opening as SaidOpening, Call, Set, Event, Link, Status, Rename}
 use Rattle.draft.specs.declared.opening.Opening.{Opening}
 use Rattle.draft.specs.declared.said.Said.{Said}
@@ -10,6 +11,14 @@ call_said (SaidEvent t z) = Event t.items z
 call_said (SaidLink t v) = Link t.items v.items
 call_said (SaidStatus s d) = Status s d.items
 call_said (SaidRename t) = Rename t.items
+
+-- the word that such a call begins with
+abbrev pub word_of_call : Said → List ℕ
+word_of_call (SaidSet l k n v) = codes "set"
+word_of_call (SaidEvent t z) = codes "event"
+word_of_call (SaidLink t v) = codes "link"
+word_of_call (SaidStatus s d) = codes "status"
+word_of_call (SaidRename t) = codes "rename"
 
 abbrev pub opening_said : Opening → SaidOpening
 opening_said o =

@@ -1,7 +1,7 @@
 //! A line that is a call of an open draft.
-ghost use Rattle.std.specs.Prelude.{◌≡◌};
+ghost use Rattle.std.specs.Prelude.{◌≡◌, IfOk, codes};
 ghost use Rattle.drafts.specs.Said.{call_of};
-ghost use Rattle.draft.specs.Lines.{call_said};
+ghost use Rattle.draft.specs.Lines.{call_said, word_of_call};
 
 use crate::fault::CallFault;
 use crate::fields::{Fields, coded};
@@ -36,7 +36,9 @@ pub enum Said {
 
 impl Said {
     /// `LIST KEY KIND VALUE`
-    pub fn set(fields: Fields<'_>) -> Result<Said, CallFault> {
+    pub fn set(fields: Fields<'_>) -> Result<Said, CallFault>
+        ensures { IfOk result (λ s. word_of_call s ≡ codes "set") }
+    {
         let mut fields = fields;
         let word = fields.word()?;
         let named = list_named(word).map(u8::from);
@@ -52,7 +54,9 @@ impl Said {
     }
 
     /// `"name" TIME`
-    pub fn event(fields: Fields<'_>) -> Result<Said, CallFault> {
+    pub fn event(fields: Fields<'_>) -> Result<Said, CallFault>
+        ensures { IfOk result (λ s. word_of_call s ≡ codes "event") }
+    {
         let mut fields = fields;
         let title = fields.text()?;
         let time = fields.time()?;
@@ -61,7 +65,9 @@ impl Said {
     }
 
     /// `"trace state" BYTES`
-    pub fn link(fields: Fields<'_>) -> Result<Said, CallFault> {
+    pub fn link(fields: Fields<'_>) -> Result<Said, CallFault>
+        ensures { IfOk result (λ s. word_of_call s ≡ codes "link") }
+    {
         let mut fields = fields;
         let trace_state = fields.text()?;
         let value = fields.bytes()?;
@@ -70,7 +76,9 @@ impl Said {
     }
 
     /// `CODE "description"`
-    pub fn status(fields: Fields<'_>) -> Result<Said, CallFault> {
+    pub fn status(fields: Fields<'_>) -> Result<Said, CallFault>
+        ensures { IfOk result (λ s. word_of_call s ≡ codes "status") }
+    {
         let mut fields = fields;
         let word = fields.word()?;
         let named = status_named(word).map(u8::from);
@@ -81,7 +89,9 @@ impl Said {
     }
 
     /// `"name"`
-    pub fn rename(fields: Fields<'_>) -> Result<Said, CallFault> {
+    pub fn rename(fields: Fields<'_>) -> Result<Said, CallFault>
+        ensures { IfOk result (λ s. word_of_call s ≡ codes "rename") }
+    {
         let mut fields = fields;
         let title = fields.text()?;
         fields.finish()?;
