@@ -1,7 +1,8 @@
 -- What the search finds, in the words of the projections.
-use Rattle.std.proofs.Common.{◌≡◌, ℕ, zero, suc, ◌+◌, ◌-◌, ◌<◌, ◌≤◌, Bool, true, false, cond, List, [], ◌∷◌, map, length, get_or, Some, None, filter, unwrap_or, sym, refl, ap, ◌∙◌, arith}
+use Rattle.std.proofs.Common.{◌≡◌, ℕ, zero, suc, ◌+◌, ◌-◌, ◌<◌, ◌≤◌, Bool, true, false, cond, List, [], ◌∷◌, map, length, get_or, Some, None, Option, IfSome, filter, unwrap_or, sym, refl, ap, ◌∙◌, arith}
 use Rattle.std.specs.Option.{option_map}
 use Rattle.std.specs.List.{range_with_len, slice_get}
+use Rattle.std.proofs.lemmas.Bool.{eqb-true}
 use Rattle.std.proofs.lemmas.List.{length-map}
 use Rattle.std.proofs.lemmas.Option.{slice_get-get_or, slice_get_past, slice_get-map}
 use Rattle.std.proofs.lemmas.List.FromFn.{length-map-range_with_len, get_or-map-range_with_len}
@@ -9,8 +10,9 @@ use Rattle.blocks.specs.declared.lists.Owner.{Owner}
 use Rattle.blocks.specs.declared.lists.Owner.TheVariants.{Event, Link}
 use Rattle.blocks.specs.Layout.{rows_in}
 use Rattle.blocks.specs.Lists.{owner_list, owned_list}
+use Rattle.blocks.specs.Faults.{list_in}
 use Rattle.blocks.specs.Facts.{RowFact, row_fact, facts_from, row_facts}
-use Rattle.blocks.specs.Places.{is_of, places_of, rows_from, attributes_of}
+use Rattle.blocks.specs.Places.{is_of, places_of, rows_from, attributes_of, Behind}
 use Rattle.blocks.specs.Projections.{in_list, of_list, up_to, Owned, owning, owned_by, nth_head}
 
 map-cond : {X Y : Type 0} (f : X → Y) (b : Bool) (x : X) (xs : List X) (ys : List Y) → ys ≡ map f xs → cond b (f x ∷ ys) ys ≡ map f (cond b (x ∷ xs) xs)
@@ -141,3 +143,24 @@ under_none m Link k e = under-none m 5 6 k e
 pub under_run : (m : List ℕ) (o : Owner) (k j t : ℕ) → j < rows_in m → Some j ≡ slice_get (places_of m (owner_list o) 0 (rows_in m - 0)) k → t ≡ unwrap_or (slice_get (places_of m (owner_list o) (j + 1) (rows_in m - (j + 1))) 0) (rows_in m) → Some (of_list (owned_list o) (rows_from m (j + 1) (t - (j + 1)))) ≡ option_map attributes_of (slice_get (owned_by o (row_facts m)) k)
 under_run m Event k j t l e f = under-run m 3 4 k j t l e f
 under_run m Link k j t l e f = under-run m 5 6 k j t l e f
+
+-- a run behind the k-th owner, which stands at j
+kept-cond : {X : Type 0} (p : X → Bool) (b : Bool) (x y : X) (ys : List X) (k : ℕ) → (b ≡ true → p y ≡ true) → ((n : ℕ) → Some x ≡ slice_get ys n → p x ≡ true) → Some x ≡ slice_get (cond b (y ∷ ys) ys) k → p x ≡ true
+kept-cond p true x y ys zero f g e = let i : x ≡ y = cc in ap p i ∙ f refl
+kept-cond p true x y ys (suc k) f g e = g k e
+kept-cond p false x y ys k f g e = g k e
+
+pub kept_holds : {X : Type 0} (p : X → Bool) (x : X) (xs : List X) (k : ℕ) → Some x ≡ slice_get (filter p xs) k → p x ≡ true
+kept_holds p x [] k e = absurd (cc)
+kept_holds p x (y ∷ ys) k e = kept-cond p (p y) x y (filter p ys) k (λ h. h) (kept_holds p x ys) e
+
+next_within : (o : Option ℕ) (from n : ℕ) → IfSome o (λ i. (from ≤ i) × (i < n)) → unwrap_or o n ≤ n
+next_within None from n h = omega arith
+next_within (Some i) from n h = let l = h.1 in omega arith
+
+pub run_behind : (m : List ℕ) (l k j t n : ℕ) (o : Option ℕ) → n ≡ rows_in m → Some j ≡ slice_get (places_of m l 0 (rows_in m - 0)) k → IfSome o (λ i. (j + 1 ≤ i) × (i < n)) → t ≡ unwrap_or o n → Behind m l (record { start = j + 1; end = t })
+unfolding places_of
+run_behind m l k j t n o r e w f =
+    let p : is_of m l j ≡ true = kept_holds (is_of m l) j (range_with_len 0 (rows_in m - 0)) k e in
+    let b = next_within o (j + 1) n w in
+    record { row = j; start = refl; list = eqb-true (list_in m j) l p; within = omega arith }

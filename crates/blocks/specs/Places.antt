@@ -1,5 +1,5 @@
 -- Where the rows of a list stand, as the code looks for them.
-use Rattle.std.specs.Prelude.{ℕ, ◌-◌, Bool, List, map, filter, ◌==◌}
+use Rattle.std.specs.Prelude.{◌≡◌, ℕ, ◌+◌, ◌-◌, ◌≤◌, Bool, List, map, filter, ◌==◌}
 use Rattle.std.specs.List.{range_with_len}
 use Rattle.std.specs.declared.ops.Range.{Range}
 use Rattle.blocks.specs.Layout.{rows_in}
@@ -23,6 +23,13 @@ all_rows m = record { start = 0; end = rows_in m }
 
 abbrev pub run_rows : List ℕ → Range ℕ → List RowFact
 run_rows m r = rows_from m r.start (r.end - r.start)
+
+-- a run that begins behind a row of the list l, and ends where the rows end or above
+pub record Behind (m : List ℕ) (l : ℕ) (r : Range ℕ) : Type 0 where
+  pub row : ℕ
+  pub start : r.start ≡ row + 1
+  pub list : list_in m row ≡ l
+  pub within : r.end ≤ rows_in m
 
 abbrev pub attributes_of : Owned → List RowFact
 attributes_of o = o.attributes

@@ -4,6 +4,7 @@
 mod counts;
 pub mod faults;
 mod frame;
+pub mod header;
 pub mod layout;
 pub mod limits;
 mod link_ids;
@@ -12,5 +13,5 @@ pub mod questions;
 pub mod row;
 mod rows;
 pub mod sdk_span;
-mod search;
+pub mod search;
 pub mod span_kind;

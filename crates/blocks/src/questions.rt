@@ -9,6 +9,7 @@ ghost use Rattle.blocks.specs.Projections.{of_list, owned_by, nth_head, nth_coun
 ghost use Rattle.blocks.specs.Places.{run_rows};
 ghost use Rattle.blocks.specs.Questions.{question_number, answered_row};
 
+use crate::header::row_count;
 use crate::lists::{List, Owner, PlainList};
 use crate::row::{Row, row_at};
 use crate::sdk_span::SdkSpan;
@@ -42,24 +43,46 @@ fn item(block: &[u8], list: List, run: Range<u16>, n: u16) -> Result<Row<'_>, Qu
         .ok_or(QuestionFault::NoSuchItem)
 }
 
+/// The row with a number, of any bytes.
+pub fn numbered_row(block: &[u8], i: u16) -> Result<Row<'_>, QuestionFault>
+    ensures row { answered_row result ≡ slice_get (row_facts block.now) i }
+    ensures by_number { answered_row result ≡ (if nat_lt i (rows_in block.now) then Some (row_fact block.now i) else None) }
+{
+    if i < row_count(block) {
+        Ok(row_at(block, i))
+    } else {
+        Err(QuestionFault::NoSuchItem)
+    }
+}
+
+/// How many rows of a list there are, of any bytes, under all owners.
+pub fn list_count(block: &[u8], list: List) -> u16
+    ensures { result ≡ length (of_list (list_number list) (row_facts block.now)) }
+{
+    count_in(block, list, all(block))
+}
+
+/// The n-th event or link, of any bytes.
+pub fn owner_row(block: &[u8], owner: Owner, n: u16) -> Result<Row<'_>, QuestionFault>
+    ensures { answered_row result ≡ nth_head (owned_by owner (row_facts block.now)) n }
+{
+    item(block, owner.list(), all(block), n)
+}
+
 impl<'a> SdkSpan<'a> {
     /// The row with a number.
     pub fn row(&self, i: u16) -> Result<Row<'a>, QuestionFault>
         ensures row { answered_row result ≡ slice_get (row_facts self.now.block.now) i }
         ensures by_number { answered_row result ≡ (if nat_lt i (rows_in self.now.block.now) then Some (row_fact self.now.block.now i) else None) }
     {
-        if i < self.row_count() {
-            Ok(row_at(self.block, i))
-        } else {
-            Err(QuestionFault::NoSuchItem)
-        }
+        numbered_row(self.block, i)
     }
 
     /// How many rows of a list there are, under all owners.
     pub fn count(&self, list: List) -> u16
         ensures { result ≡ length (of_list (list_number list) (row_facts self.now.block.now)) }
     {
-        count_in(self.block, list, all(self.block))
+        list_count(self.block, list)
     }
 
     /// The n-th attribute of the span, the resource or the scope.
@@ -73,7 +96,7 @@ impl<'a> SdkSpan<'a> {
     pub fn owner(&self, owner: Owner, n: u16) -> Result<Row<'a>, QuestionFault>
         ensures { answered_row result ≡ nth_head (owned_by owner (row_facts self.now.block.now)) n }
     {
-        item(self.block, owner.list(), all(self.block), n)
+        owner_row(self.block, owner, n)
     }
 
     /// How many attributes the n-th event or link has.

@@ -5,18 +5,18 @@ ghost use Rattle.lent_bytes.specs.Fields.{u32_in};
 ghost use Rattle.blocks.specs.Faults.{block_fault};
 ghost use Rattle.blocks.specs.Lawful.{Lawful};
 ghost use Rattle.blocks.specs.Layout.{rows_in};
-ghost use Rattle.blocks.specs.Facts.{facts, header_text};
+ghost use Rattle.blocks.specs.Facts.{facts};
 
 use crate::faults::BlockFault;
 use crate::frame::{check_frame, check_texts};
-use crate::layout::text;
+use crate::header;
 use crate::rows::check_rows;
 use crate::span_kind::{SpanKind, StatusCode};
 use lent_bytes::fields::{Number, id_at};
-use lent_bytes::memory::byte;
 
-/// An ended span, over the block that holds it.
-#[derive(Clone, Copy)]
+/// An ended span, over the block that holds it. It is moved and not copied, so that what takes a span has it
+/// alone.
+#[derive(Drop)]
 pub struct SdkSpan<'a> {
     pub(crate) block: &'a [u8],
 }
@@ -43,14 +43,6 @@ pub fn open(block: &[u8]) -> Result<SdkSpan<'_>, BlockFault>
     checked(block)
 }
 
-/// A text of the header, by where its place and length stand.
-fn header_text(block: &[u8], at: u8) -> &[u8]
-    ensures { result.now ≡ header_text block.now at }
-{
-    let at = at as usize;
-    text(block, u32::read(block, at), u32::read(block, at + 4))
-}
-
 // Each number and text of the header has a function of its own name, which says what it means: they are
 // no twins, though their bodies differ in a place alone.
 impl<'a> SdkSpan<'a> {
@@ -62,18 +54,25 @@ impl<'a> SdkSpan<'a> {
         SdkSpan { block }
     }
 
+    /// The block that holds the span.
+    pub fn block(&self) -> &'a [u8]
+        ensures { result.now ≡ self.now.block.now }
+    {
+        self.block
+    }
+
     /// The upper half of the trace id.
     pub fn trace_id_high(&self) -> u64
         ensures { result ≡ (facts self.now.block.now).trace_high }
     {
-        id_at(self.block, 16)
+        header::trace_id_high(self.block)
     }
 
     /// The lower half of the trace id.
     pub fn trace_id_low(&self) -> u64
         ensures { result ≡ (facts self.now.block.now).trace_low }
     {
-        id_at(self.block, 24)
+        header::trace_id_low(self.block)
     }
 
     /// The span's id.
@@ -108,49 +107,49 @@ impl<'a> SdkSpan<'a> {
     pub fn kind(&self) -> SpanKind
         ensures { result ≡ (facts self.now.block.now).kind }
     {
-        SpanKind::from(byte(self.block, 10))
+        header::kind(self.block)
     }
 
     /// How the span ended.
     pub fn status(&self) -> StatusCode
         ensures { result ≡ (facts self.now.block.now).status }
     {
-        StatusCode::from(byte(self.block, 11))
+        header::status(self.block)
     }
 
     /// The span's name.
     pub fn name(&self) -> &'a [u8]
         ensures { result.now ≡ (facts self.now.block.now).name }
     {
-        header_text(self.block, 80)
+        header::name(self.block)
     }
 
     /// The span's trace state.
     pub fn trace_state(&self) -> &'a [u8]
         ensures { result.now ≡ (facts self.now.block.now).trace_state }
     {
-        header_text(self.block, 88)
+        header::text_at(self.block, 88)
     }
 
     /// The name of the instrumentation scope.
     pub fn scope_name(&self) -> &'a [u8]
         ensures { result.now ≡ (facts self.now.block.now).scope_name }
     {
-        header_text(self.block, 96)
+        header::text_at(self.block, 96)
     }
 
     /// The version of the instrumentation scope.
     pub fn scope_version(&self) -> &'a [u8]
         ensures { result.now ≡ (facts self.now.block.now).scope_version }
     {
-        header_text(self.block, 104)
+        header::text_at(self.block, 104)
     }
 
     /// What the status says.
     pub fn description(&self) -> &'a [u8]
         ensures { result.now ≡ (facts self.now.block.now).description }
     {
-        header_text(self.block, 112)
+        header::text_at(self.block, 112)
     }
 
     /// How many attributes were dropped.
@@ -178,6 +177,6 @@ impl<'a> SdkSpan<'a> {
     pub fn row_count(&self) -> u16
         ensures { result ≡ rows_in self.now.block.now }
     {
-        u16::read(self.block, 2)
+        header::row_count(self.block)
     }
 }

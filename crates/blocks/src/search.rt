@@ -2,10 +2,10 @@
 ghost use Rattle.std.specs.Prelude.{◌≡◌, ◌-◌, ◌<◌, ◌≤◌, length, IfSome};
 ghost use Rattle.std.specs.Option.{option_map};
 ghost use Rattle.std.specs.List.{slice_get};
-ghost use Rattle.blocks.specs.Lists.{list_number, owned_list};
+ghost use Rattle.blocks.specs.Lists.{list_number, owner_list, owned_list};
 ghost use Rattle.blocks.specs.Facts.{row_facts};
 ghost use Rattle.blocks.specs.Projections.{of_list, owned_by};
-ghost use Rattle.blocks.specs.Places.{places_of, all_rows, run_rows, attributes_of};
+ghost use Rattle.blocks.specs.Places.{places_of, all_rows, run_rows, attributes_of, Behind};
 
 use crate::layout::is_in;
 use crate::lists::{List, Owner};
@@ -35,8 +35,9 @@ pub(crate) fn find(block: &[u8], list: List, run: Range<u16>, n: u16) -> Option<
 }
 
 /// The rows behind the n-th event or link and above the next; none where there are not as many.
-pub(crate) fn run_under(block: &[u8], owner: Owner, n: u16) -> Option<Range<u16>>
-    ensures { option_map (λ u. of_list (owned_list owner) (run_rows block.now u)) result ≡ option_map attributes_of (slice_get (owned_by owner (row_facts block.now)) n) }
+pub fn run_under(block: &[u8], owner: Owner, n: u16) -> Option<Range<u16>>
+    ensures run { option_map (λ u. of_list (owned_list owner) (run_rows block.now u)) result ≡ option_map attributes_of (slice_get (owned_by owner (row_facts block.now)) n) }
+    ensures behind { IfSome result (Behind block.now (owner_list owner)) }
 {
     let list = owner.list();
     let rows = u16::read(block, 2);

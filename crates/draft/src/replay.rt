@@ -96,7 +96,7 @@ fn make_all(
 fn print_ended(rt: &HostRuntime, span: SdkSpan<'_>, tally: &mut Tally) -> io::Result<Left> {
     tally.count(true);
     print_row(rt, "answer", "ended")?;
-    print!(rt; "{}", Facts { span })?;
+    print!(rt; "{}", Facts { span: &span })?;
     Ok(Left::Ended)
 }
 

@@ -2,12 +2,8 @@
 //! the block holds, or why it is refused. With the argument `count` it prints only how many were accepted and refused.
 #![tactic(auto)]
 
-mod origin;
-mod refusal;
 mod request;
 
-use crate::origin::Origin;
-use crate::refusal::Refusal;
 use crate::request::{Mode, Request};
 use blocks::sdk_span::open;
 use notation::cut::{Line, Lines};
@@ -16,6 +12,8 @@ use notation::report::NotRead;
 use notation::source::Source;
 use notation::tally::{Summary, Tally};
 use span_report::facts::Facts;
+use span_report::origin::Origin;
+use span_report::refusal::Refusal;
 use std::io;
 
 /// Opens a block and counts it; prints what it holds, or why it is refused.
@@ -32,7 +30,7 @@ fn open_block(
         return Ok(());
     }
     match outcome {
-        Ok(span) => println!(rt; "{origin} accepted\n{}", Facts { span }),
+        Ok(span) => println!(rt; "{origin} accepted\n{}", Facts { span: &span }),
         Err(fault) => println!(rt; "{}", Refusal { origin, fault }),
     }
 }

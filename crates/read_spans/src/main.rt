@@ -40,7 +40,7 @@ fn print_fields<A: OtelSpan, B: OtelSpan>(rt: &HostRuntime, a: &A, b: &B) -> any
 
 fn print_span(rt: &HostRuntime, span: &SdkSpan<'_>) -> anyhow::Result<()> {
     let bare = SpanExtractArgs::new(span);
-    let later = LaterEdition::new(bare);
+    let later = LaterEdition::new(SpanExtractArgs::new(span));
     print_keys(rt, &bare)?;
     print_fields(rt, &bare, &later)
 }

@@ -31,8 +31,8 @@ fn read_as(name: Renamed) -> bool {
     put_span(&mut m, SpanKind::Client, b"n", &rows);
     let span = SdkSpan::of_ended(&m);
     let reader = SpanExtractArgs::new(&span);
-    let one = LaterEdition::new(reader);
-    let two = LaterEdition::new(LaterEdition::new(reader));
+    let one = LaterEdition::new(SpanExtractArgs::new(&span));
+    let two = LaterEdition::new(LaterEdition::new(SpanExtractArgs::new(&span)));
     [DB_SYSTEM, DB_SYSTEM_NAME].iter().all(|key| {
         span_says(&reader, *key, Some(name.later))
             && span_says(&one, *key, Some(name.earlier))

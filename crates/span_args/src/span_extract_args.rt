@@ -11,7 +11,9 @@ ghost use Rattle.blocks.specs.Facts.{facts, fact_of};
 ghost use Rattle.readers.specs.Reading.{size_of, bytes_of, text_of, number_of};
 ghost use Rattle.span_args.specs.ReadingOf.{list_key, datum_at, shown_by, span_known, resource_shown, row_in, reading_by, reading_of};
 
+use blocks::header::{kind, name, row_count};
 use blocks::lists::List;
+use blocks::questions::numbered_row;
 use blocks::row::Row;
 use blocks::sdk_span::SdkSpan;
 use blocks::span_kind::SpanKind;
@@ -23,11 +25,11 @@ use values::kinds::ValueKind;
 use values::show::{display_text, otel_value_string_repr};
 use values::value::Value;
 
-/// A span in a block, with the number of the last row of each known key, of the span's attributes and of
-/// the resource's.
-#[derive(Clone, Copy)]
+/// The block of a span, with the number of the last row of each known key, of the span's attributes and of
+/// the resource's. It holds the block's bytes and not the span, which a conversion takes.
+#[derive(Drop)]
 pub struct SpanExtractArgs<'a> {
-    span: SdkSpan<'a>,
+    block: &'a [u8],
     span_attrs: AttributeIndices,
     res_attrs: AttributeIndices,
 }
@@ -95,15 +97,11 @@ fn row_text_opt<T: Shown>(row: Option<Row<'_>>, out: &mut [u8; 4096]) -> Option<
 }
 
 /// The row that was noted for a key.
-fn noted_row<'a>(
-    span: &SdkSpan<'a>,
-    indices: &AttributeIndices,
-    key: AttributeKey,
-) -> Option<Row<'a>>
-    ensures { option_map fact_of result ≡ row_in span.now.block.now (slice_index_or indices.now.places key.idx None) }
+fn noted_row<'a>(block: &'a [u8], indices: &AttributeIndices, key: AttributeKey) -> Option<Row<'a>>
+    ensures { option_map fact_of result ≡ row_in block.now (slice_index_or indices.now.places key.idx None) }
 {
     match indices.get(key) {
-        Some(i) if i < span.row_count() as usize => span.row(i as u16).ok(),
+        Some(i) if i < row_count(block) as usize => numbered_row(block, i as u16).ok(),
         _ => None,
     }
 }
@@ -126,53 +124,59 @@ fn note_row(
 }
 
 impl<'a> SpanExtractArgs<'a> {
-    /// The reader of a span: its reading is that of the span's facts.
-    pub fn new(span: &SdkSpan<'a>) -> SpanExtractArgs<'a>
-        ensures span { result.span.block.now ≡ span.now.block.now }
-        ensures reading { reading_by result.span.block.now result.span_attrs.places result.res_attrs.places ≡ reading_of (facts span.now.block.now) }
+    /// The reader of the span in a block.
+    fn of_block(block: &'a [u8]) -> SpanExtractArgs<'a>
+        ensures { reading_by result.block.now result.span_attrs.places result.res_attrs.places ≡ reading_of (facts block.now) }
     {
         let mut span_attrs = AttributeIndices::default();
         let mut res_attrs = AttributeIndices::default();
         // By number, since the number is what is noted.
-        for i in 0..span.row_count() {
-            if let Ok(row) = span.row(i) {
+        for i in 0..row_count(block) {
+            if let Ok(row) = numbered_row(block, i) {
                 note_row(&row, i, &mut span_attrs, &mut res_attrs);
             }
         }
         SpanExtractArgs {
-            span: *span,
+            block,
             span_attrs,
             res_attrs,
         }
     }
+
+    /// The reader of a span: its reading is that of the span's facts.
+    pub fn new(span: &SdkSpan<'a>) -> SpanExtractArgs<'a>
+        ensures { reading_by result.block.now result.span_attrs.places result.res_attrs.places ≡ reading_of (facts span.now.block.now) }
+    {
+        SpanExtractArgs::of_block(span.block())
+    }
 }
 
 impl<'a> OtelSpan for SpanExtractArgs<'a> {
-    ghost reading = { λ s. reading_by s.span.block.now s.span_attrs.places s.res_attrs.places };
+    ghost reading = { λ s. reading_by s.block.now s.span_attrs.places s.res_attrs.places };
 
     fn name(&self, out: &mut [u8; 4096]) -> usize {
-        write_text(out, self.span.name())
+        write_text(out, name(self.block))
     }
 
     fn span_kind(&self) -> SpanKind {
-        self.span.kind()
+        kind(self.block)
     }
 
     fn has_attr(&self, key: AttributeKey) -> bool {
-        noted_row(&self.span, &self.span_attrs, key).is_some()
+        noted_row(self.block, &self.span_attrs, key).is_some()
     }
 
     fn get_attr_str_opt(&self, key: AttributeKey, out: &mut [u8; 4096]) -> Option<usize> {
-        row_text_opt::<OnSpan>(noted_row(&self.span, &self.span_attrs, key), out)
+        row_text_opt::<OnSpan>(noted_row(self.block, &self.span_attrs, key), out)
     }
 
     fn get_attr_num(&self, key: AttributeKey) -> Option<i64> {
-        let row = noted_row(&self.span, &self.span_attrs, key)?;
+        let row = noted_row(self.block, &self.span_attrs, key)?;
         let value = value_of(&row)?;
         value.number()
     }
 
     fn get_res_attribute_opt(&self, key: AttributeKey, out: &mut [u8; 4096]) -> Option<usize> {
-        row_text_opt::<OnResource>(noted_row(&self.span, &self.res_attrs, key), out)
+        row_text_opt::<OnResource>(noted_row(self.block, &self.res_attrs, key), out)
     }
 }

@@ -5,11 +5,11 @@ use blocks::sdk_span::SdkSpan;
 use std::fmt;
 
 #[derive(Clone, Copy)]
-pub struct Facts<'a> {
-    pub span: SdkSpan<'a>,
+pub struct Facts<'s, 'a> {
+    pub span: &'s SdkSpan<'a>,
 }
 
-impl fmt::Display for Facts<'_> {
+impl fmt::Display for Facts<'_, '_> {
     fn fmt<W: fmt::Write>(&self, f: &mut fmt::Formatter<W>) -> fmt::Result {
         let span = self.span;
         write!(f, "{}{}", Header { span }, Rows { span })

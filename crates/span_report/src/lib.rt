@@ -1,7 +1,9 @@
 //! What is printed of a span, wherever it comes from.
 #![tactic(auto)]
 
-mod columns;
+pub mod columns;
 pub mod facts;
 mod header;
+pub mod origin;
+pub mod refusal;
 mod rows;

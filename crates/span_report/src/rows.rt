@@ -82,11 +82,11 @@ impl fmt::Display for Numbered<'_> {
 
 /// The rows of a span, each on a line.
 #[derive(Clone, Copy)]
-pub struct Rows<'a> {
-    pub span: SdkSpan<'a>,
+pub struct Rows<'s, 'a> {
+    pub span: &'s SdkSpan<'a>,
 }
 
-impl fmt::Display for Rows<'_> {
+impl fmt::Display for Rows<'_, '_> {
     fn fmt<W: fmt::Write>(&self, f: &mut fmt::Formatter<W>) -> fmt::Result {
         // By number, since it is printed.
         for number in 0..self.span.row_count() {
