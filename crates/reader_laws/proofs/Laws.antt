@@ -6,16 +6,24 @@ use Rattle.blocks.specs.declared.span_kind.SpanKind.{SpanKind}
 use Rattle.blocks.specs.declared.span_kind.SpanKind.TheVariants.{Internal, Server, Client, Producer, Consumer}
 use Rattle.readers.specs.Reading.{Reading, text_of}
 use Rattle.readers.specs.Texts.{or_else, or_absent, if_given, span_text, res_span_text}
-use Rattle.derived.specs.OperationName.{lowered, if_both, is_http, query_name, messaging_name, rpc_client_name, rpc_server_name, invoked_name, triggered_name, graphql_name, request_name, client_name, server_name, name_by_kind}
-use Rattle.derived.specs.ResourceName.{beside, detailed, method_name, method_of, route_by, http_resource, messaging_resource, rpc_resource, graphql_resource, asked_text, only_if, database_resource, given_resource, resource_by_use}
-use Rattle.derived.specs.Fields.{client_type, type_by_kind, code_under, or_number, or_zero, own_text, field_name, field_resource, field_type, field_environment, field_status_code, fields}
-use Rattle.readers.specs.Places.{http_method, http_request_method, http_status_code, http_response_status_code, db_system, db_system_name, db_statement, db_query_text, messaging_system, messaging_operation, messaging_operation_type, messaging_destination, messaging_destination_name, deployment_environment, deployment_environment_name, datadog_name, datadog_resource, datadog_type, datadog_env, datadog_http_status_code, span_type as type_key, operation_name as name_key}
+use Rattle.derived.specs.OperationName.{operation_name, lowered, if_both, is_http, query_name, messaging_name, rpc_client_name, rpc_server_name, invoked_name, triggered_name, graphql_name, request_name, client_name, server_name, name_by_kind}
+use Rattle.derived.specs.ResourceName.{resource_name, beside, detailed, method_name, method_of, route_by, http_resource, messaging_resource, rpc_resource, graphql_resource, asked_text, only_if, database_resource, given_resource, resource_by_use}
+use Rattle.derived.specs.Fields.{span_type, environment, client_type, type_by_kind, code_under, or_number, or_zero, field_status_code, fields}
+use Rattle.readers.specs.Places.{http_method, http_request_method, http_status_code, http_response_status_code, db_system, db_system_name, db_statement, db_query_text, messaging_system, messaging_operation, messaging_operation_type, messaging_destination, messaging_destination_name, deployment_environment, deployment_environment_name, datadog_env, datadog_http_status_code, span_type as type_key, operation_name as name_key}
 use Rattle.reader_laws.specs.Alike.{Names, renamings, in_later_names, Alike, UsedDoubly, NoneDoubly, DeriveAlike}
 use Rattle.reader_laws.proofs.Pairs.{SamePair, same-pair}
 
 -- the reading with its older names put as later
-abbrev later : Reading → Reading
+abbrev pub later : Reading → Reading
 later r = record { name = r.name; kind = r.kind; span = in_later_names r.span; resource = in_later_names r.resource }
+
+-- what names of pairs bear on: the same of both
+pub record Once (r : Reading) : Type 0 where
+  pub name : operation_name (later r) ≡ operation_name r
+  pub resource : resource_name (later r) ≡ resource_name r
+  pub type : span_type (later r) ≡ span_type r
+  pub environment : environment (later r) ≡ environment r
+  pub status_code : field_status_code (later r) ≡ field_status_code r
 
 -- of one pair
 abbrev Pair : Reading → ℕ → ℕ → Type 0
@@ -47,8 +55,8 @@ module _ (r : Reading) (method : Pair r http_method http_request_method) (status
   by_kind Consumer = ap (λ o. or_absent o (or_absent (graphql_name r) (codes "consumer"))) messaging
   by_kind Internal = refl
 
-  name : field_name (later r) ≡ field_name r
-  name = ap (λ t. or_absent (own_text r datadog_name) (or_absent (text_of (r.span name_key)) t)) (by_kind r.kind)
+  name : operation_name (later r) ≡ operation_name r
+  name = ap (or_absent (text_of (r.span name_key))) (by_kind r.kind)
 
   -- the resource name
   route : (k : SpanKind) → route_by (later r) k ≡ route_by r k
@@ -76,11 +84,11 @@ module _ (r : Reading) (method : Pair r http_method http_request_method) (status
       ap (λ t. only_if t (if_given (asked_text (later r)) (asked_text (later r)))) (sym system.later_first)
       ∙ ap (λ t. only_if (res_span_text r (db_system_name ∷ db_system ∷ [])) (if_given t t)) asked
 
-  resource : field_resource (later r) ≡ field_resource r
+  resource : resource_name (later r) ≡ resource_name r
   resource =
-      ap (λ o. or_absent (own_text r datadog_resource) (or_absent (given_resource r) (or_absent o (or_absent (messaging_resource (later r)) (resource_by_use (later r)))))) http
-      ∙ ap (λ o. or_absent (own_text r datadog_resource) (or_absent (given_resource r) (or_absent (http_resource r) (or_absent o (resource_by_use (later r)))))) message
-      ∙ ap (λ o. or_absent (own_text r datadog_resource) (or_absent (given_resource r) (or_absent (http_resource r) (or_absent (messaging_resource r) (or_absent (rpc_resource r) (or_absent (graphql_resource r) (or_absent o r.name))))))) database
+      ap (λ o. or_absent (given_resource r) (or_absent o (or_absent (messaging_resource (later r)) (resource_by_use (later r))))) http
+      ∙ ap (λ o. or_absent (given_resource r) (or_absent (http_resource r) (or_absent o (resource_by_use (later r))))) message
+      ∙ ap (λ o. or_absent (given_resource r) (or_absent (http_resource r) (or_absent (messaging_resource r) (or_absent (rpc_resource r) (or_absent (graphql_resource r) (or_absent o r.name)))))) database
 
   -- the others
   type-by-kind : (k : SpanKind) → type_by_kind (later r) k ≡ type_by_kind r k
@@ -90,30 +98,38 @@ module _ (r : Reading) (method : Pair r http_method http_request_method) (status
   type-by-kind Consumer = refl
   type-by-kind Internal = refl
 
-  type : field_type (later r) ≡ field_type r
-  type = ap (λ t. or_else (span_text r datadog_type) (or_else (res_span_text r (type_key ∷ [])) t)) (type-by-kind r.kind)
+  type : span_type (later r) ≡ span_type r
+  type = ap (or_else (res_span_text r (type_key ∷ []))) (type-by-kind r.kind)
 
-  env : field_environment (later r) ≡ field_environment r
-  env = ap (λ t. or_else (span_text r datadog_env) (or_else (res_span_text r (datadog_env ∷ [])) t)) (sym deployment.of_resource)
+  env : environment (later r) ≡ environment r
+  env = ap (or_else (res_span_text r (datadog_env ∷ []))) (sym deployment.of_resource)
 
   code : field_status_code (later r) ≡ field_status_code r
   code = ap (λ n. or_zero (or_number (code_under r datadog_http_status_code) n)) (sym status.number)
 
-  all : fields (later r) ≡ fields r
-  all = rw (name, resource, type, env, code)
+  all : Once r
+  all = record { name = name; resource = resource; type = type; environment = env; status_code = code }
 
-once : (r : Reading) → NoneDoubly r renamings → fields (later r) ≡ fields r
+-- what is derived of a reading is derived of it with its older names put as later
+pub once : (r : Reading) → NoneDoubly r renamings → Once r
 once r (method, (status, (system, (statement, (operation, (destination, (deployment, u))))))) = all r (pair r _ method) (pair r _ status) (pair r _ system) (pair r _ statement) (pair r _ operation) (pair r _ destination) (pair r _ deployment)
 
 -- what is said of every known key is said
 known-keys : {X : Type 0} (f g : ℕ → Option X) → ((k : ℕ) → k < 43 → in_later_names f k ≡ in_later_names g k) → in_later_names f ≡ in_later_names g
 known-keys f g h = fun_ext (λ k. ⊎_elim (λ t. h k (ltb-true k 43 t)) (λ n. cond-false (ltb k 43) _ _ n ∙ sym (cond-false (ltb k 43) _ _ n)) (cases_Bool (ltb k 43)))
 
-same-later : (a b : Reading) → Alike a b → later a ≡ later b
+pub same-later : (a b : Reading) → Alike a b → later a ≡ later b
 same-later a b h =
     let s = known-keys a.span b.span h.span in
     let t = known-keys a.resource b.resource h.resource in
     rw (h.name, h.kind, s, t)
 
+-- so what is the same of both is equal for readings that say the same
+pub derived_alike : {X : Type 0} (derived : Reading → X) (a b : Reading) → Alike a b → derived (later a) ≡ derived a → derived (later b) ≡ derived b → derived a ≡ derived b
+derived_alike derived a b h p q = sym p ∙ ap derived (same-later a b h) ∙ q
+
+all-fields : (r : Reading) → Once r → fields (later r) ≡ fields r
+all-fields r o = let n = o.name in let e = o.resource in let t = o.type in let v = o.environment in let c = o.status_code in rw (n, e, t, v, c)
+
 pub derive_alike_lem : (a b : Reading) → DeriveAlike a b
-derive_alike_lem a b h p q = sym (once a p) ∙ ap fields (same-later a b h) ∙ once b q
+derive_alike_lem a b h p q = derived_alike fields a b h (all-fields a (once a p)) (all-fields b (once b q))

@@ -1,3 +1,2 @@
 mod Pairs
 pub mod Laws
-pub mod Examples

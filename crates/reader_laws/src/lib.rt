@@ -3,7 +3,6 @@
 
 ghost use Rattle.readers.specs.Places.{NamedByKey};
 ghost use Rattle.reader_laws.specs.Alike.{DeriveAlike};
-ghost use Rattle.reader_laws.specs.Examples.{WorkedExamples};
 
 use readers::otel_util::OtelSpan;
 
@@ -11,11 +10,6 @@ use readers::otel_util::OtelSpan;
 /// names doubly, give the same name, resource, type, service, environment and status code.
 pub fn derive_alike<A: OtelSpan, B: OtelSpan>(a: &A, b: &B)
     ensures { DeriveAlike (A.OtelSpan.reading a.now) (B.OtelSpan.reading b.now) }
-{}
-
-/// A database client, an HTTP server, an empty attribute and a later edition, worked out.
-pub fn worked_examples()
-    ensures { WorkedExamples }
 {}
 
 /// The names by which the definitions call the places of the known keys are those of the keys.

@@ -1,11 +1,13 @@
 -- What a look-up in a table gives.
-use Rattle.std.proofs.Common.{◌≡◌, ℕ, ◌≤◌, true, leb, List, [], ◌∷◌, length, Some, None, Option, Bor, refl, ◌∙◌, inl, inr, ⊎_elim, arith}
-use Rattle.std.specs.List.{find}
+use Rattle.std.proofs.Common.{◌≡◌, ℕ, ◌+◌, ◌≤◌, true, false, cond, leb, List, [], ◌∷◌, map, drop, get_or, length, Some, None, Option, Bor, refl, ap, sym, ◌∙◌, inl, inr, ⊎_elim, arith}
+use Rattle.std.specs.List.{find, position, position_from}
+use Rattle.std.proofs.lemmas.List.{get_or-drop, drop-drop}
+use Rattle.std.proofs.lemmas.Iterator.Adapters.{position_from-zero}
 use Rattle.std.specs.Option.{option_map, unwrap_or}
 use Rattle.readers.specs.declared.tables.Entry.{Entry}
 use Rattle.std.specs.Str.{bytes_eq}
 use Rattle.std.proofs.lemmas.Bool.{cases_Bool, and_parts, leb-true, cond-true, cond-false}
-use Rattle.readers.specs.Tables.{Pair, entry_for, within, pairs_of}
+use Rattle.readers.specs.Tables.{Pair, entry_for, within, pairs_of, text_at}
 use Rattle.readers.specs.Texts.{or_absent}
 
 pub or_some : (o : Option (List ℕ)) (x d : List ℕ) → Some x ≡ o → x ≡ or_absent o d
@@ -41,3 +43,18 @@ pub entry_found : (t : List ℕ) (es : List Entry) → option_map (λ e. e.to.no
 entry_found t [] = refl
 entry_found t (e ∷ es) =
     elim (cases_Bool (bytes_eq e.from.now t)) [ inl h ↦ rw h refl | inr h ↦ rw h (entry_found t es) ]
+
+-- the row that has a text, by its place
+module _ (k : List ℕ) where
+  at_place : (es : List Entry) (j : ℕ) (ts : List (List ℕ)) → drop j ts ≡ map (λ e. e.to.now) es → option_map (λ i. get_or ts i []) (position_from (λ e. bytes_eq e.from.now k) j es) ≡ entry_for k (pairs_of es)
+  at_place [] j ts h = refl
+  at_place (e ∷ es) j ts h =
+      let here : get_or ts j [] ≡ e.to.now = (let z : j + 0 ≡ j = omega arith in ap (λ n. get_or ts n []) (sym z) ∙ sym (get_or-drop j ts 0 []) ∙ ap (λ l. get_or l 0 []) h) in
+      let later : drop (j + 1) ts ≡ map (λ e. e.to.now) es = sym (drop-drop 1 j ts) ∙ ap (drop 1) h in
+      elim (bytes_eq e.from.now k) as (λ b. option_map (λ i. get_or ts i []) (cond b (Some j) (position_from (λ e. bytes_eq e.from.now k) (j + 1) es)) ≡ cond b (Some e.to.now) (entry_for k (pairs_of es))) [
+        | true ↦ ap Some here
+        | false ↦ at_place es (j + 1) ts later
+      ]
+
+  pub place_found : (es : List Entry) → option_map (text_at es) (position (λ e. bytes_eq e.from.now k) es) ≡ entry_for k (pairs_of es)
+  place_found es = ap (option_map (text_at es)) (position_from-zero (λ (e : Entry). bytes_eq e.from.now k) es) ∙ at_place es 0 (map (λ e. e.to.now) es) refl

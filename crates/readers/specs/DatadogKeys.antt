@@ -1,5 +1,5 @@
 -- Under which key an attribute goes to Datadog.
-use Rattle.std.specs.Prelude.{ℕ, Bool, cond, ◌||◌, List, [], ◌∷◌, ◌++◌, length, is_some, Some, None, codes, Option}
+use Rattle.std.specs.Prelude.{ℕ, Bool, cond, ◌||◌, List, [], ◌∷◌, ◌++◌, length, is_some, Some, None, codes, Option, map, slice_index_or}
 use Rattle.std.specs.Str.{bytes_eq}
 use Rattle.lent_bytes.specs.Memory.{portion, rest}
 use Rattle.lent_bytes.specs.Lookup.{index_from}
@@ -21,6 +21,10 @@ http_names =
     to (codes "url.full") (codes "http.url") ∷
     to (codes "user_agent.original") (codes "http.useragent") ∷
     []
+
+-- the i-th of those names
+abbrev pub http_name_at : ℕ → List ℕ
+http_name_at i = slice_index_or (map (λ p. p.into) http_names) i []
 
 abbrev pub convention_keys : List (List ℕ)
 convention_keys = codes "service.name" ∷ codes "operation.name" ∷ codes "resource.name" ∷ codes "span.type" ∷ []

@@ -1,5 +1,5 @@
 -- Tables of what stands for a text.
-use Rattle.std.specs.Prelude.{ℕ, Bool, true, cond, ◌&&◌, List, [], ◌∷◌, map, length, Some, None, Option, nat_le}
+use Rattle.std.specs.Prelude.{ℕ, Bool, true, cond, ◌&&◌, List, [], ◌∷◌, map, length, Some, None, Option, nat_le, slice_index_or}
 use Rattle.std.specs.Str.{bytes_eq}
 use Rattle.readers.specs.declared.tables.Entry.{Entry}
 
@@ -26,3 +26,7 @@ pair_of e = to e.from.now e.to.now
 
 abbrev pub pairs_of : List Entry → List Pair
 pairs_of es = map pair_of es
+
+-- what stands in a row
+abbrev pub text_at : List Entry → ℕ → List ℕ
+text_at es i = slice_index_or (map (λ e. e.to.now) es) i []

@@ -2,9 +2,9 @@
 ghost use Rattle.std.specs.Prelude.{◌≡◌};
 ghost use Rattle.std.specs.Option.{option_map};
 ghost use Rattle.readers.specs.Tables.{entry_for};
-ghost use Rattle.readers.specs.DatadogKeys.{http_names, begins, is_convention_key, plain_key, datadog_key, key_prefix, key_name, key_of};
+ghost use Rattle.readers.specs.DatadogKeys.{http_names, http_name_at, begins, is_convention_key, plain_key, datadog_key, key_prefix, key_name, key_of};
 
-use crate::tables::{Entry, find};
+use crate::tables::{Entry, find, place_in, text_at};
 use lent_bytes::memory::after;
 use lent_bytes::tables::index_of;
 use names::semconv;
@@ -72,6 +72,20 @@ pub fn http_mappings(k: &[u8]) -> Option<&'static [u8]>
     find(&HTTP_NAMES, k)
 }
 
+/// The place of that name among all of them.
+pub fn http_place(k: &[u8]) -> Option<usize>
+    ensures { option_map http_name_at result ≡ entry_for k.now http_names }
+{
+    place_in(&HTTP_NAMES, k)
+}
+
+/// The name at a place, the empty text past the last.
+pub fn http_name(i: usize) -> &'static [u8]
+    ensures { result.now ≡ http_name_at i }
+{
+    text_at(&HTTP_NAMES, i)
+}
+
 fn starts(k: &[u8], prefix: &[u8]) -> bool
     ensures { result ≡ begins prefix.now k.now }
 {
@@ -99,7 +113,8 @@ pub enum DdKey<'a> {
     Kept(&'a [u8]),
 }
 
-fn plain_key(k: &[u8]) -> DdKey<'_>
+/// The key of an attribute that has no other name.
+pub fn plain_key(k: &[u8]) -> DdKey<'_>
     ensures { key_of result ≡ plain_key k.now }
 {
     if starts(k, b"http.request.header.") {

@@ -1,12 +1,10 @@
 -- The worked examples, by computation.
 use Rattle.std.proofs.Common.{◌≡◌, ℕ, false, List, IsUtf8, refl}
-use lib.Ieee.{of_bits, to_bits, of_int}
+use lib.Ieee.{of_bits}
 use lib.Utf8.{encode}
 use Rattle.std.specs.Str.{chars}
 use Rattle.std.proofs.lemmas.Bool.{both_ways}
-use Rattle.lent_bytes.specs.Memory.{portion, rest}
 use Rattle.values.specs.Unicode.{is_text}
-use Rattle.values.specs.Format.{elements_past, elements_in}
 use Rattle.values.specs.Laws.{WorkedExamples}
 use Rattle.values.proofs.Decided.{is_text_decides}
 
@@ -14,7 +12,7 @@ no_text : (b : List ℕ) → is_text b ≡ false → IsUtf8 b → ⊥
 no_text b n u = both_ways (is_text b) n ((is_text_decides b).1 u)
 
 pub worked_examples_lem : WorkedExamples
-unfolding encode chars is_text of_bits to_bits of_int portion rest elements_past elements_in
+unfolding encode chars is_text of_bits
 worked_examples_lem =
     record {
       not_identical_to_alpha = (refl, refl);
@@ -39,7 +37,4 @@ worked_examples_lem =
       infinity = refl;
       minus_infinity = refl;
       not_a_number = refl;
-      tie = refl;
-      a_and_b = refl;
-      shown_a_and_b = refl;
     }

@@ -1,13 +1,12 @@
 -- What holds of the definitions as a whole.
-use Rattle.std.specs.Prelude.{◌≡◌, ℕ, true, List, [], ◌∷◌, pos, negsuc, Some, None, codes, IsUtf8, from_bits}
+use Rattle.std.specs.Prelude.{◌≡◌, ℕ, true, List, [], ◌∷◌, pos, negsuc, Some, None, IsUtf8, from_bits}
 use Rattle.std.specs.Float.{binary64}
 use Rattle.std.proofs.Math.Utf8.{encodes, scalars}
 use Rattle.lent_bytes.specs.Memory.{clip}
-use Rattle.values.specs.declared.kinds.ScalarKind.TheVariants.{String}
-use Rattle.values.specs.Atoms.{Datum, whole, words, single, several}
+use Rattle.values.specs.Atoms.{Datum}
 use Rattle.values.specs.Doubles.{whole_of}
 use Rattle.values.specs.Format.{value_of}
-use Rattle.values.specs.Shown.{display, dd_string, string_repr, metric_of}
+use Rattle.values.specs.Shown.{display, dd_string, string_repr}
 use Rattle.values.specs.Faults.{value_fault}
 
 -- a value that passed the check is never clipped: each of its texts fits 4,096 bytes
@@ -23,7 +22,7 @@ CheckedIsNeverClipped =
 abbrev pub Spells : List ℕ → List ℕ → Type 0
 Spells cs bs = (scalars cs ≡ true) × (encodes cs ≡ bs)
 
--- worked examples: of RFC 3629, of binary64, and of values
+-- worked examples of RFC 3629 and of binary64
 pub record WorkedExamples : Type 0 where
   -- RFC 3629, section 7
   pub not_identical_to_alpha : Spells (0x41 ∷ 0x2262 ∷ 0x391 ∷ 0x2e ∷ []) (0x41 ∷ 0xe2 ∷ 0x89 ∷ 0xa2 ∷ 0xce ∷ 0x91 ∷ 0x2e ∷ [])
@@ -50,7 +49,3 @@ pub record WorkedExamples : Type 0 where
   pub infinity : whole_of (from_bits binary64 0x7ff0_0000_0000_0000) ≡ None
   pub minus_infinity : whole_of (from_bits binary64 0xfff0_0000_0000_0000) ≡ None
   pub not_a_number : whole_of (from_bits binary64 0x7ff8_0000_0000_0000) ≡ None
-  -- values: a tie goes to the even neighbour, and an array's text
-  pub tie : metric_of (single (whole (pos 9007199254740993))) ≡ Some 0x4340_0000_0000_0000
-  pub a_and_b : value_of 7 (1 ∷ 0 ∷ 97 ∷ 1 ∷ 0 ∷ 98 ∷ []) ≡ Some (several String (words (codes "a") ∷ words (codes "b") ∷ []))
-  pub shown_a_and_b : display (several String (words (codes "a") ∷ words (codes "b") ∷ [])) ≡ codes "[\"a\",\"b\"]"

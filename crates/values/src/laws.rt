@@ -7,7 +7,7 @@ pub fn checked_is_never_clipped()
     ensures { CheckedIsNeverClipped }
 {}
 
-/// Examples of RFC 3629 and of binary64, of the metric and of an array's text.
+/// Examples of RFC 3629 and of binary64.
 pub fn worked_examples()
     ensures { WorkedExamples }
 {}
