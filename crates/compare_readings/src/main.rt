@@ -3,11 +3,10 @@
 #![tactic(auto)]
 
 mod answer;
-mod compared;
 
 use crate::answer::{Answer, Shown};
-use crate::compared::Compared;
 use blocks::sdk_span::open;
+use notation::compared::Compared;
 use notation::cut::{Line, Lines, word};
 use notation::hex::read_bytes;
 use notation::report::NotRead;

@@ -86,6 +86,19 @@ fn write_bytes<W: fmt::Write>(f: &mut fmt::Formatter<W>, text: &[u8]) -> fmt::Re
     Ok(())
 }
 
+/// A text with the same escapes, however long it is, so that texts that differ are printed differently.
+#[derive(Clone, Copy)]
+pub struct Whole<'a>(pub &'a [u8]);
+
+impl fmt::Display for Whole<'_> {
+    fn fmt<W: fmt::Write>(&self, f: &mut fmt::Formatter<W>) -> fmt::Result {
+        if self.0.is_empty() {
+            return f.write_str("(no bytes)");
+        }
+        write_bytes(f, self.0)
+    }
+}
+
 impl fmt::Display for Escaped<'_> {
     fn fmt<W: fmt::Write>(&self, f: &mut fmt::Formatter<W>) -> fmt::Result {
         let len = self.0.len();

@@ -2,6 +2,7 @@
 //! a word names, where a text comes from, and how a line's outcome is printed and counted.
 #![tactic(auto)]
 
+pub mod compared;
 pub mod cut;
 pub mod element;
 pub mod fault;
