@@ -1,0 +1,15 @@
+use Rattle.std.proofs.Common.{rules}
+use Rattle.conversion.proofs.AttributeLemmas.{texts}
+use Rattle.conversion.proofs.unfinished.UnfinishedSpan.put_number.Goals as goal
+
+pub returns-then-is_empty : goal.returns-then-is_empty
+returns-then-is_empty c = search (rules, texts)
+
+pub returns-then-keeps_number : goal.returns-then-keeps_number
+returns-then-keeps_number c = search (rules, texts)
+
+pub returns-then-is : goal.returns-then-is
+returns-then-is c = search (rules, texts)
+
+pub returns : goal.returns
+returns c = search (rules, texts)

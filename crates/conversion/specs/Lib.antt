@@ -1,0 +1,16 @@
+pub mod Spans
+pub mod Forms
+pub mod Singles
+pub mod Steps
+pub mod Constants
+pub mod Pieces
+pub mod Questions
+pub mod RowSteps
+pub mod Tables
+pub mod View
+pub mod Faults
+pub mod Answers
+pub mod Converts
+pub mod LinkTexts
+pub mod Events
+pub mod ByKey

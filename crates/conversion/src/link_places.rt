@@ -1,0 +1,83 @@
+//! Where the texts of links' attributes lie: those that are placed stand in the arena one behind another, row by row.
+ghost use Rattle.std.specs.Prelude.{◌≡◌, ◌≤◌, false, length};
+ghost use Rattle.blocks.specs.Facts.{row_fact, fact_at, facts_from};
+ghost use Rattle.blocks.specs.Layout.{raw_of};
+ghost use Rattle.blocks.specs.declared.lists.Owner.TheVariants.{Link};
+ghost use Rattle.span_args.specs.ReadingOf.{datum_at};
+ghost use Rattle.conversion.specs.ByKey.{IsUnder};
+ghost use Rattle.conversion.specs.Forms.{string_form};
+ghost use Rattle.conversion.specs.LinkTexts.{ReadAt, link_text, link_texts};
+ghost use Rattle.conversion.specs.Spans.{arena_for, bytes_of};
+
+use crate::dd_span::DdSpan;
+use crate::forms::string_form;
+use crate::links::{is_attribute, or_link};
+use crate::pieces::{Given, Piece, piece_bytes};
+use blocks::layout::{RawRow, raw_row};
+
+/// How many bytes of the arena a row's value takes as a text.
+fn placed_len(block: &[u8], row: RawRow) -> usize
+    ensures len { result ≡ length (arena_for (string_form (datum_at (fact_at block.now (raw_of row))))) }
+    ensures few { result ≤ 4096 }
+{
+    let mut out = [0u8; 4096];
+    match string_form(block, row, &mut out) {
+        Given::Quoted(_) => 0,
+        Given::Lent { .. } => 0,
+        Given::Placed(text) => text.len(),
+    }
+}
+
+/// How many the row `i` takes, if it is an attribute of a link.
+fn link_len(below: bool, block: &[u8], i: u16) -> usize
+    ensures len { result ≡ length (link_text below (row_fact block.now i)) }
+    ensures few { result ≤ 4096 }
+{
+    if is_attribute(below, block, i) {
+        placed_len(block, raw_row(block, i))
+    } else {
+        0
+    }
+}
+
+/// How many the attributes of links take that stand above the row `j`.
+fn len_above(block: &[u8], j: u16) -> usize
+    ensures { result ≡ length (link_texts false (facts_from block.now 0 j)) }
+{
+    let mut below = false;
+    let mut len = 0;
+    for i in 0..j {
+        len += link_len(below, block, i);
+        below = or_link(below, block, i);
+    }
+    len
+}
+
+/// Where a text lies that was given: in the arena from `at` on, if it was placed.
+fn piece_at(given: Given<'_>, at: usize) -> Piece
+    ensures { ReadAt at given.entry result }
+{
+    match given {
+        Given::Quoted(constant) => Piece::Constant(constant),
+        Given::Lent { place, len } => Piece::Block { place, len },
+        Given::Placed(text) => Piece::Arena {
+            place: at,
+            len: text.len(),
+        },
+    }
+}
+
+impl<'b, 'm, 'a> DdSpan<'b, 'm, 'a> {
+    /// The value of the row `j`, an attribute of a link, as a text.
+    pub(crate) fn attribute_text(&self, j: u16) -> &[u8]
+        requires { IsUnder self.now.made.block.now Link j }
+        ensures { result.now ≡ bytes_of (string_form (datum_at (row_fact self.now.made.block.now j))) }
+    {
+        let block = self.made.block;
+        let at = self.links_at + len_above(block, j);
+        let mut out = [0u8; 4096];
+        let given = string_form(block, raw_row(block, j), &mut out);
+        let piece = piece_at(given, at);
+        piece_bytes(block, self.made.arena, piece)
+    }
+}
