@@ -38,6 +38,7 @@ impl RawRow {
 }
 
 /// The row with the number `i`.
+#[inline(always)]
 pub fn raw_row(block: &[u8], i: u16) -> RawRow
     ensures { raw_of result ≡ row_at block.now (row_place i) }
 {
@@ -54,6 +55,7 @@ pub fn raw_row(block: &[u8], i: u16) -> RawRow
 }
 
 /// The text of `n` bytes at a place, which counts from the text offset.
+#[inline(always)]
 pub fn text(block: &[u8], place: u32, n: u32) -> &[u8]
     ensures { result.now ≡ text_in block.now place n }
 {
@@ -62,6 +64,7 @@ pub fn text(block: &[u8], place: u32, n: u32) -> &[u8]
 }
 
 /// Whether the row `i` is one of this list.
+#[inline(always)]
 pub fn is_in(block: &[u8], list: List, i: u16) -> bool
     ensures { result ≡ (list_in block.now i == list_number list) }
 {

@@ -31,6 +31,9 @@ impl Number for u16 {
 
     fn read(m: &[u8], at: usize) -> u16 {
         let p = part(m, at, 2);
+        if p.len() == 2 {
+            return u16::from_le_bytes([p[0], p[1]]);
+        }
         u16::from_le_bytes(array::from_fn(|i| byte(p, i)))
     }
 
@@ -47,6 +50,9 @@ impl Number for u32 {
 
     fn read(m: &[u8], at: usize) -> u32 {
         let p = part(m, at, 4);
+        if p.len() == 4 {
+            return u32::from_le_bytes([p[0], p[1], p[2], p[3]]);
+        }
         u32::from_le_bytes(array::from_fn(|i| byte(p, i)))
     }
 
@@ -63,6 +69,9 @@ impl Number for u64 {
 
     fn read(m: &[u8], at: usize) -> u64 {
         let p = part(m, at, 8);
+        if p.len() == 8 {
+            return u64::from_le_bytes([p[0], p[1], p[2], p[3], p[4], p[5], p[6], p[7]]);
+        }
         u64::from_le_bytes(array::from_fn(|i| byte(p, i)))
     }
 
@@ -79,6 +88,9 @@ impl Number for i64 {
 
     fn read(m: &[u8], at: usize) -> i64 {
         let p = part(m, at, 8);
+        if p.len() == 8 {
+            return i64::from_le_bytes([p[0], p[1], p[2], p[3], p[4], p[5], p[6], p[7]]);
+        }
         i64::from_le_bytes(array::from_fn(|i| byte(p, i)))
     }
 
@@ -93,5 +105,8 @@ pub fn id_at(m: &[u8], at: usize) -> u64
     ensures { result ≡ id_in m.now at }
 {
     let p = part(m, at, 8);
+    if p.len() == 8 {
+        return u64::from_be_bytes([p[0], p[1], p[2], p[3], p[4], p[5], p[6], p[7]]);
+    }
     u64::from_be_bytes(array::from_fn(|i| byte(p, i)))
 }

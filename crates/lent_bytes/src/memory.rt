@@ -3,6 +3,7 @@ ghost use Rattle.std.specs.Prelude.{◌≡◌, length, take, slice_index};
 ghost use Rattle.lent_bytes.specs.Memory.{portion, rest, written, padded};
 
 /// The `n` bytes of `m` from `at` on, fewer where `m` ends before.
+#[inline(always)]
 pub fn part(m: &[u8], at: usize, n: usize) -> &[u8]
     ensures { result.now ≡ portion m.now at n }
 {
@@ -19,6 +20,7 @@ pub fn after(m: &[u8], n: usize) -> &[u8]
 }
 
 /// The byte of `m` at `i`, 0 past its end.
+#[inline(always)]
 pub fn byte(m: &[u8], i: usize) -> u8
     ensures { result ≡ slice_index m.now i }
 {

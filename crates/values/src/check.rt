@@ -1,6 +1,7 @@
 //! Whether bytes are a value of their kind.
 ghost use Rattle.std.specs.Prelude.{◌≡◌, length, IfOk, Some, nat_lt};
 ghost use Rattle.std.specs.Result.{result_err};
+ghost use Rattle.std.specs.Fmt.{signed_decimal};
 ghost use Rattle.values.specs.Faults.{fault_number, fault_message, value_fault};
 ghost use Rattle.values.specs.Format.{alone_formed, formed, meant, value_of};
 ghost use Rattle.values.specs.Shown.{display, datum_readable};
@@ -8,8 +9,8 @@ ghost use Rattle.values.specs.declared.check.ValueFault.TheVariants.{Form};
 
 use crate::elements::{DOUBLE_TEXT, are_readable, fill, is_readable};
 use crate::kinds::{ScalarKind, UnknownKind, ValueKind};
-use crate::show::push_value;
-use crate::value::Value;
+use crate::show::{TEXT_BYTES, push_value};
+use crate::value::{Scalar, Value};
 use lent_bytes::memory::byte;
 use lent_bytes::texts::TextWriter;
 use std::fmt;
@@ -76,14 +77,35 @@ fn has_utf8_texts(value: Value<'_>) -> bool
     }
 }
 
-/// Whether the display text has over 4,096 bytes: it then fills one byte more.
+/// Whether the display text is written over the limit: it then fills one byte more.
+fn is_written_too_long(value: Value<'_>) -> bool
+    ensures { result ≡ nat_lt 4096 (length (display (meant value.entry))) }
+{
+    let mut scratch = [0u8; TEXT_BYTES + 1];
+    let mut text = TextWriter::new(&mut scratch);
+    push_value(&mut text, value, true);
+    text.len() > TEXT_BYTES
+}
+
+/// An integer's text never is too long: it has at most 20 bytes.
+fn is_integer_too_long(number: i64) -> bool
+    ensures { result ≡ nat_lt 4096 (length (signed_decimal number)) }
+{
+    let _ = number;
+    false
+}
+
+/// Whether the display text has over 4,096 bytes. Only an array's is written to find out.
 fn is_too_long(value: Value<'_>) -> bool
     ensures { result ≡ nat_lt 4096 (length (display (meant value.entry))) }
 {
-    let mut scratch = [0u8; 4097];
-    let mut text = TextWriter::new(&mut scratch);
-    push_value(&mut text, value, true);
-    text.len() > 4096
+    match value {
+        Value::Scalar(Scalar::Bool(_)) => false,
+        Value::Scalar(Scalar::I64(number)) => is_integer_too_long(number),
+        Value::Scalar(Scalar::F64(double)) => double.text.len() > TEXT_BYTES,
+        Value::Scalar(Scalar::String(text)) => text.len() > TEXT_BYTES,
+        Value::Array(_) => is_written_too_long(value),
+    }
 }
 
 /// The value that `bytes` are under a kind's number, or what is wrong with them: first their form,

@@ -3,7 +3,7 @@ use Rattle.std.proofs.lemmas.Bool.Decides.{nat_tests}
 use Rattle.lent_bytes.proofs.Writers.{written_len}
 use Rattle.values.specs.Format.{meant}
 use Rattle.values.specs.Shown.{display}
-use Rattle.values.proofs.check.is_too_long.Goals as goal
+use Rattle.values.proofs.check.is_written_too_long.Goals as goal
 
 pub returns : goal.returns
 returns c =
