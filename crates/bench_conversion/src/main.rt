@@ -38,6 +38,9 @@ const SHAPES: [Shape; 4] = [
 
 const TURNS: u32 = 1000;
 
+/// A smaller arena than the largest, of which all that is not used is cleared as well.
+const SMALL_ARENA: usize = 16384;
+
 const START: Start<'static> = Start {
     rows: 400,
     kind: 3,
@@ -98,28 +101,59 @@ fn times_converted(block: &[u8], meta: &mut [MetaRow], arena: &mut [u8]) -> usiz
     last
 }
 
+/// How many texts conversions in an arena have, and how long one takes with the open before it, in nanoseconds.
+#[derive(Clone, Copy)]
+struct Timed {
+    texts: usize,
+    nanos: u128,
+}
+
+fn time_converted(
+    rt: &HostRuntime,
+    block: &[u8],
+    meta: &mut [MetaRow],
+    arena: &mut [u8],
+) -> anyhow::Result<Timed> {
+    let start = Instant::now(rt)?;
+    let texts = times_converted(block, meta, arena);
+    let nanos = nanos_a_turn(start.elapsed(rt)?, TURNS);
+    Ok(Timed { texts, nanos })
+}
+
+fn print_times(
+    rt: &HostRuntime,
+    shape: Shape,
+    span: &SdkSpan<'_>,
+    large: Timed,
+    small: Timed,
+) -> anyhow::Result<()> {
+    let name = shape.name;
+    let rows = span.row_count();
+    let start = Instant::now(rt)?;
+    let opened = times_opened(span.block());
+    let open_took = nanos_a_turn(start.elapsed(rt)?, TURNS);
+    let Timed { texts, nanos } = large;
+    let small_nanos = small.nanos;
+    let small_texts = small.texts;
+    println!(rt; "{name}: {rows} rows, opened {opened} times, {texts} and {small_texts} texts")?;
+    eprintln!(rt; "{name:<6} {rows:>4} rows: opened in {open_took:>7} ns")?;
+    eprintln!(rt; "  and converted in {nanos:>7} ns, in a small arena in {small_nanos:>7} ns")?;
+    Ok(())
+}
+
 fn print_shape(rt: &HostRuntime, shape: Shape) -> anyhow::Result<()> {
     let mut memory = vec![in rt.alloc(); 0u8; 32768]?;
     let mut meta = vec![in rt.alloc(); MetaRow::EMPTY; META_ROWS]?;
     let mut arena = vec![in rt.alloc(); 0u8; ARENA_BYTES]?;
+    let mut small_arena = vec![in rt.alloc(); 0u8; SMALL_ARENA]?;
     let name = shape.name;
     let Some(span) = record(&mut memory[..], shape) else {
         println!(rt; "{name}: not recorded")?;
         return Ok(());
     };
-    let block = span.block();
-    let rows = span.row_count();
-    let start = Instant::now(rt)?;
-    let opened = times_opened(block);
-    let open_took = nanos_a_turn(start.elapsed(rt)?, TURNS);
-    let start = Instant::now(rt)?;
-    let texts = times_converted(block, &mut meta[..], &mut arena[..]);
-    let both_took = nanos_a_turn(start.elapsed(rt)?, TURNS);
-    println!(rt; "{name}: {rows} rows, opened {opened} times, {texts} texts")?;
-    eprintln!(rt;
-        "{name:<6} {rows:>4} rows: opened in {open_took:>7} ns, opened and converted in {both_took:>7} ns"
-    )?;
-    Ok(())
+    let large = time_converted(rt, span.block(), &mut meta[..], &mut arena[..])?;
+    let small = time_converted(rt, span.block(), &mut meta[..], &mut small_arena[..])?;
+    print_times(rt, shape, &span, large, small)
 }
 
 fn main(rt: HostRuntime) -> anyhow::Result<()> {

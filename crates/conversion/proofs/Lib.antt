@@ -1,5 +1,7 @@
 pub mod Held
+pub mod ClearLemmas
 pub mod TableLemmas
+pub mod DigestLemmas
 pub mod Ways
 pub mod Grows
 pub mod Chains
@@ -10,6 +12,7 @@ pub mod Endings
 pub mod AttributeLemmas
 pub mod Turns
 pub mod OwnLemmas
+pub mod OwnRows
 pub mod ChainLemmas
 pub mod LinkLemmas
 pub mod EventLemmas

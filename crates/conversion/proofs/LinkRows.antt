@@ -13,9 +13,9 @@ use Rattle.span_args.specs.ReadingOf.{datum_at}
 use Rattle.conversion.specs.ByKey.{IsUnder}
 use Rattle.conversion.specs.Forms.{number_form, string_form}
 use Rattle.conversion.specs.LinkTexts.{Lies, ReadAt, link_text, or_link, link_texts}
-use Rattle.conversion.specs.Pieces.{given_text, piece_text}
-use Rattle.conversion.specs.Spans.{placed, arena_for}
-use Rattle.conversion.specs.declared.pieces.Given.{Given}
+use Rattle.conversion.specs.Pieces.{form_text, piece_text}
+use Rattle.conversion.specs.Spans.{arena_for}
+use Rattle.conversion.specs.declared.pieces.Form.{Form}
 use Rattle.conversion.specs.declared.pieces.Piece.{Piece}
 use Rattle.conversion.proofs.LinkLemmas.{link_text-some}
 use Rattle.conversion.proofs.Lying.{lies_part}
@@ -39,8 +39,8 @@ string_few (Some (single (double p t))) = number_few _ t
 string_few (Some (single (words t))) = omega arith
 string_few (Some (several k xs)) = clip_few _
 
-pub placed_few : (d : Option Datum) (t : List ℕ) → placed t ≡ string_form d → length t ≤ 4096
-placed_few d t e = let s = string_few d in let l : length t ≡ length (arena_for (string_form d)) = ap (λ x. length (arena_for x)) e in omega arith
+pub few_placed : (d : Option Datum) (n : ℕ) → n ≡ length (arena_for (string_form d)) → n ≤ 4096
+few_placed d n e = let s = string_few d in omega arith
 
 -- how long the texts of the rows above the row j are: those from i on are still to come
 module _ (b : List ℕ) (j : ℕ) where
@@ -147,10 +147,10 @@ module _ (b : List ℕ) (j : ℕ) (u : IsUnder b Link j) where
   row_lies a at h = lies_part a (link_texts false above) text (link_texts true behind) at (rw (← texts-parted) h)
 
 -- the text of the row j, read where it is said to lie
-pub text_found : (b a : List ℕ) (j at n : ℕ) (g : Given) (p : Piece) (r : RawRow) → IsUnder b Link j → Lies a at (link_texts false (row_facts b)) → n ≡ length (link_texts false (facts_from b 0 j))
-    → given_text b g ≡ string_form (datum_at (fact_at b (raw_of r))) → raw_of r ≡ row_at b (row_place j)
+pub text_found : (b a : List ℕ) (j at n : ℕ) (g : Form) (p : Piece) (r : RawRow) → IsUnder b Link j → Lies a at (link_texts false (row_facts b)) → n ≡ length (link_texts false (facts_from b 0 j))
+    → form_text b g ≡ string_form (datum_at (fact_at b (raw_of r))) → raw_of r ≡ row_at b (row_place j)
     → ReadAt (at + n) g p
     → piece_text b a p ≡ string_form (datum_at (row_fact b j))
 text_found b a j at n g p r u h e f q k =
-    let t : given_text b g ≡ string_form (datum_at (row_fact b j)) = f ∙ ap (λ x. string_form (datum_at (fact_at b x))) q in
+    let t : form_text b g ≡ string_form (datum_at (row_fact b j)) = f ∙ ap (λ x. string_form (datum_at (fact_at b x))) q in
     k b a (rw (e, t) (row_lies b j u a at h)) ∙ t

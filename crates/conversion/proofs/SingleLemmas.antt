@@ -1,11 +1,11 @@
 -- The four texts outside the tables.
-use Rattle.std.proofs.Common.{◌≡◌, ℕ, ◌≤◌, true, false, List, refl, arith}
+use Rattle.std.proofs.Common.{◌≡◌, ℕ, ◌≤◌, true, false, List, [], None, Some, is_some, true≢false, refl, arith}
 use Rattle.std.proofs.lemmas.List.{length-append}
 use Rattle.std.proofs.lemmas.Bool.{cond_both, cond-true, cond-false}
 use Rattle.lent_bytes.specs.Memory.{portion, clip, Placed}
 use Rattle.lent_bytes.proofs.Clips.{take-padded}
-use Rattle.readers.specs.Reading.{Reading}
-use Rattle.readers.specs.Texts.{Filled}
+use Rattle.readers.specs.Reading.{Reading, text_of, bytes_of as bytes_of_known}
+use Rattle.readers.specs.Texts.{Filled, span_text}
 use Rattle.conversion.specs.Spans.{Text, Span, placed, bytes_of}
 use Rattle.conversion.specs.Steps.{is_empty, own_texts, or_single, derived_texts}
 use Rattle.conversion.specs.Singles.{single_of, with_single}
@@ -21,6 +21,14 @@ front_filled w t r out f = rw (f.text, f.len) (take-padded w t)
 pub front_placed : (w : ℕ) (t : List ℕ) (r : ℕ) (out : List ℕ) → Placed w t r out → portion out 0 r ≡ clip w t
 unfolding portion
 front_placed w t r out f = rw (f.text, f.len) (take-padded w (clip w t))
+
+-- what a span does not have has no text
+pub absent_text : (r : Reading) (k : ℕ) → is_some (r.span k) ≡ false → span_text r k ≡ []
+absent_text r k h =
+    elim (r.span k) as (λ o. is_some o ≡ false → bytes_of_known (text_of o) ≡ []) [
+      | None ↦ λ _. refl
+      | Some v ↦ λ t. absurd (true≢false t)
+    ] h
 
 grow_four : (a b c d s : Span) → size s ≤ size a → size a ≤ size b → size b ≤ size c → size c ≤ size d → size s ≤ size d
 grow_four a b c d s p q r t = omega arith

@@ -7,7 +7,7 @@ use Rattle.std.specs.Str.{bytes_eq}
 use Rattle.lent_bytes.specs.Memory.{clip}
 use Rattle.values.specs.Atoms.{Datum, flag, whole, double, words, single, several}
 use Rattle.values.specs.Doubles.{whole_of}
-use Rattle.values.specs.Shown.{flag_text, display, dd_string, metric_of, number_of}
+use Rattle.values.specs.Shown.{flag_text, datum_text, display, metric_of, number_of}
 use Rattle.blocks.specs.Facts.{RowFact, Facts}
 use Rattle.span_args.specs.ReadingOf.{datum_at, last_row_of}
 use Rattle.readers.specs.DatadogKeys.{Key, mapped, header, dropped, kept}
@@ -30,31 +30,33 @@ string_form (Some (single (double p t))) = number_form (whole_of (from_bits bina
 string_form (Some (single (words t))) = lent t
 string_form (Some (several k xs)) = placed (clip 4096 (display (several k xs)))
 
-abbrev pub display_form : Option Datum → Text
-display_form None = quoted []
-display_form (Some (single (flag b))) = placed (clip 4096 (flag_text b))
-display_form (Some (single (whole z))) = placed (clip 4096 (signed_decimal z))
-display_form (Some (single (double p t))) = placed (clip 4096 t)
-display_form (Some (single (words t))) = lent t
-display_form (Some (several k xs)) = placed (clip 4096 (display (several k xs)))
+-- all but a string is placed, with or without quotes around the strings of an array
+abbrev pub shown_form : Bool → Option Datum → Text
+shown_form quotes None = quoted []
+shown_form quotes (Some (single (flag b))) = placed (clip 4096 (flag_text b))
+shown_form quotes (Some (single (whole z))) = placed (clip 4096 (signed_decimal z))
+shown_form quotes (Some (single (double p t))) = placed (clip 4096 t)
+shown_form quotes (Some (single (words t))) = lent t
+shown_form quotes (Some (several k xs)) = placed (clip 4096 (datum_text quotes (several k xs)))
 
--- without quotes in arrays
+abbrev pub display_form : Option Datum → Text
+display_form d = shown_form true d
+
 abbrev pub plain_form : Option Datum → Text
-plain_form None = quoted []
-plain_form (Some (single (flag b))) = placed (clip 4096 (flag_text b))
-plain_form (Some (single (whole z))) = placed (clip 4096 (signed_decimal z))
-plain_form (Some (single (double p t))) = placed (clip 4096 t)
-plain_form (Some (single (words t))) = lent t
-plain_form (Some (several k xs)) = placed (clip 4096 (dd_string (several k xs)))
+plain_form d = shown_form false d
 
 abbrev pub metric_form : Option Datum → Option ℕ
 metric_form None = None
 metric_form (Some d) = metric_of d
 
+-- the key of a header, by its name
+abbrev pub header_key : List ℕ → List ℕ
+header_key name = clip 4096 (codes "http.request.headers." ++ name)
+
 -- a key of Datadog's own is quoted, and a header's is made
 abbrev pub key_form : Key → Text
 key_form (mapped t) = quoted t
-key_form (header t) = placed (clip 4096 (codes "http.request.headers." ++ t))
+key_form (header t) = placed (header_key t)
 key_form dropped = quoted []
 key_form (kept t) = lent t
 

@@ -4,6 +4,7 @@ pub mod Singles
 pub mod Steps
 pub mod Constants
 pub mod Pieces
+pub mod Digests
 pub mod Questions
 pub mod RowSteps
 pub mod Tables

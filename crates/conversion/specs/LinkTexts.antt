@@ -5,8 +5,8 @@ use Rattle.blocks.specs.Facts.{RowFact}
 use Rattle.span_args.specs.ReadingOf.{datum_at}
 use Rattle.conversion.specs.Spans.{arena_for}
 use Rattle.conversion.specs.Forms.{string_form}
-use Rattle.conversion.specs.Pieces.{given_text, piece_text}
-use Rattle.conversion.specs.declared.pieces.Given.{Given}
+use Rattle.conversion.specs.Pieces.{form_text, piece_text}
+use Rattle.conversion.specs.declared.pieces.Form.{Form}
 use Rattle.conversion.specs.declared.pieces.Piece.{Piece}
 
 -- of a row, where it is an attribute that stands below a link
@@ -25,6 +25,6 @@ pub record Lies (a : List ℕ) (at : ℕ) (t : List ℕ) : Type 0 where
   pub within : at + length t ≤ length a
   pub text : portion a at (length t) ≡ t
 
--- the piece p reads the text g, where what is placed of it lies in the arena from `at` on
-abbrev pub ReadAt : ℕ → Given → Piece → Type 0
-ReadAt at g p = (b a : List ℕ) → Lies a at (arena_for (given_text b g)) → piece_text b a p ≡ given_text b g
+-- the piece p reads the text f, where what is placed of it lies in the arena from `at` on
+abbrev pub ReadAt : ℕ → Form → Piece → Type 0
+ReadAt at f p = (b a : List ℕ) → Lies a at (arena_for (form_text b f)) → piece_text b a p ≡ form_text b f

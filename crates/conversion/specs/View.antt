@@ -5,8 +5,9 @@ use Rattle.blocks.specs.Facts.{facts}
 use Rattle.blocks.specs.Projections.{links_of, events_of}
 use Rattle.conversion.specs.Spans.{Text, Span, arena_for, bytes_of}
 use Rattle.conversion.specs.Steps.{link_of, event_of}
-use Rattle.conversion.specs.Pieces.{given_text, piece_text, meta_pair, metric_pair}
+use Rattle.conversion.specs.Pieces.{given_text, form_text, piece_text, meta_pair, metric_pair}
 use Rattle.conversion.specs.declared.pieces.Given.{Given}
+use Rattle.conversion.specs.declared.pieces.Form.{Form}
 use Rattle.conversion.specs.declared.pieces.Piece.{Piece}
 use Rattle.conversion.specs.declared.pieces.MetaRow.{MetaRow}
 use Rattle.conversion.specs.declared.pieces.Metric.{Metric}
@@ -69,6 +70,9 @@ Does r s e F = Step r s e (F (length s.meta.now) s.block.now (view s))
 -- what a text that is given means over the span's block, and one that lies in its block or arena
 abbrev pub given_in : UnfinishedSpan → Given → Text
 given_in s g = given_text s.block.now g
+
+abbrev pub form_in : UnfinishedSpan → Form → Text
+form_in s f = form_text s.block.now f
 
 abbrev pub piece_in : UnfinishedSpan → Piece → Text
 piece_in s p = piece_text s.block.now s.arena.now p

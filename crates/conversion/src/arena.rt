@@ -1,14 +1,19 @@
 //! Texts that are placed in the arena of a span.
 ghost use Rattle.std.specs.Prelude.{◌≡◌, ◌≤◌, IfOk, length};
 ghost use Rattle.conversion.specs.declared.pieces.Piece.{Piece};
-ghost use Rattle.lent_bytes.specs.Memory.{written};
+ghost use Rattle.lent_bytes.specs.Memory.{clip, written};
+ghost use Rattle.values.specs.Format.{meant};
+ghost use Rattle.values.specs.Shown.{datum_text};
 ghost use Rattle.conversion.specs.Spans.{placed, bytes_of};
 ghost use Rattle.conversion.specs.Pieces.{piece_text, piece_end};
-ghost use Rattle.conversion.specs.View.{piece_in, given_in, Does, placing, holding, joined};
+ghost use Rattle.conversion.specs.View.{piece_in, given_in, form_in, Does, placing, holding, joined};
 
-use crate::pieces::{Given, Piece, piece_bytes};
+use crate::forms::written;
+use crate::pieces::{Form, Given, Piece, piece_bytes};
 use crate::unfinished::UnfinishedSpan;
 use lent_bytes::memory::write;
+use values::show::TEXT_BYTES;
+use values::value::Value;
 
 /// A text does not fit the arena.
 #[derive(Clone, Copy, PartialEq, Eq, Debug)]
@@ -57,6 +62,35 @@ impl<'b, 'm, 'a> UnfinishedSpan<'b, 'm, 'a> {
             Given::Placed(t) => self.place(t),
         }
     }
+
+    /// A value's display text, placed.
+    #[inline(never)]
+    fn place_shown(&mut self, value: &Value<'_>, quotes: bool) -> Result<Piece, ArenaFull>
+        ensures step { Does result self.old self.new (λ _ _. placing (clip 4096 (datum_text quotes (meant value.now)))) }
+        ensures text { IfOk result (λ p. piece_in self.new p ≡ placed (clip 4096 (datum_text quotes (meant value.now)))) }
+        ensures held { IfOk result (λ p. piece_end p ≤ self.new.used) }
+        ensures grown { self.old.used ≤ self.new.used }
+        ensures texts { (p : Piece) → piece_end p ≤ self.old.used → piece_in self.new p ≡ piece_in self.old p }
+    {
+        let mut out = [0u8; TEXT_BYTES];
+        let text = written(value, quotes, &mut out);
+        self.place(text)
+    }
+
+    /// A row's value, placed if it has to be.
+    pub(crate) fn hold_form(&mut self, form: Form<'_>) -> Result<Piece, ArenaFull>
+        ensures step { Does result self.old self.new (λ _ _. holding (form_in self.old form.entry)) }
+        ensures text { IfOk result (λ p. piece_in self.new p ≡ form_in self.old form.entry) }
+        ensures held { IfOk result (λ p. piece_end p ≤ self.new.used) }
+        ensures grown { self.old.used ≤ self.new.used }
+        ensures texts { (p : Piece) → piece_end p ≤ self.old.used → piece_in self.new p ≡ piece_in self.old p }
+    {
+        match form {
+            Form::Ready(given) => self.hold(given),
+            Form::Shown { value, quotes } => self.place_shown(&value, quotes),
+        }
+    }
+
     /// How long a text is.
     fn piece_len(&self, piece: Piece) -> usize
         ensures { result ≡ length (bytes_of (piece_in self.now piece)) }

@@ -3,17 +3,23 @@ ghost use Rattle.std.specs.Prelude.{◌≡◌, ◌≤◌, ◌&&◌, IfSome, map,
 ghost use Rattle.std.specs.Char.{to_ascii_lowercase};
 ghost use Rattle.std.specs.Option.{option_map};
 ghost use Rattle.std.specs.Str.{bytes_eq};
-ghost use Rattle.conversion.specs.Spans.{found};
+ghost use Rattle.lent_bytes.specs.Memory.{clip};
+ghost use Rattle.values.specs.Format.{meant};
+ghost use Rattle.values.specs.Shown.{datum_text};
+ghost use Rattle.conversion.specs.Spans.{bytes_of, found};
 ghost use Rattle.conversion.specs.Forms.{parsed_bool};
 ghost use Rattle.conversion.specs.Steps.{put_given, is_empty, is_meta_key, says_something, put_sampling, put_text, put_number};
-ghost use Rattle.conversion.specs.Pieces.{piece_end};
-ghost use Rattle.conversion.specs.View.{view, piece_in, given_in, Does};
+ghost use Rattle.conversion.specs.Pieces.{form_text, piece_end};
+ghost use Rattle.conversion.specs.View.{view, piece_in, given_in, form_in, Does};
 
 use crate::arena::ArenaFull;
 use crate::constants::Constant;
-use crate::pieces::{Given, Piece, given_bytes, piece_bytes};
-use crate::rows::first;
+use crate::forms::written;
+use crate::pieces::{Form, Given, Piece, given_bytes, piece_bytes};
+use crate::rows::first_text;
 use crate::unfinished::{ONE, UnfinishedSpan};
+use values::show::TEXT_BYTES;
+use values::value::Value;
 
 fn is(text: &[u8], word: &[u8]) -> bool
     ensures { result ≡ bytes_eq text.now word.now }
@@ -58,13 +64,51 @@ fn parsed_bool(text: &[u8]) -> Option<bool>
     }
 }
 
+/// Whether a value's display text is empty.
+#[inline(never)]
+fn shows_nothing(value: &Value<'_>, quotes: bool) -> bool
+    ensures { result ≡ is_empty (clip 4096 (datum_text quotes (meant value.now))) }
+{
+    let mut out = [0u8; TEXT_BYTES];
+    is_empty(written(value, quotes, &mut out))
+}
+
+/// Whether a row's value has no text.
+fn says_nothing(block: &[u8], form: Form<'_>) -> bool
+    ensures { result ≡ is_empty (bytes_of (form_text block.now form.entry)) }
+{
+    match form {
+        Form::Ready(given) => is_empty(given_bytes(block, given)),
+        Form::Shown { value, quotes } => shows_nothing(&value, quotes),
+    }
+}
+
+/// True and false in a value's display text.
+#[inline(never)]
+fn parsed_shown(value: &Value<'_>, quotes: bool) -> Option<bool>
+    ensures { result ≡ parsed_bool (clip 4096 (datum_text quotes (meant value.now))) }
+{
+    let mut out = [0u8; TEXT_BYTES];
+    parsed_bool(written(value, quotes, &mut out))
+}
+
+/// True and false in the text of a row's value.
+fn parsed_form(block: &[u8], form: Form<'_>) -> Option<bool>
+    ensures { result ≡ parsed_bool (bytes_of (form_text block.now form.entry)) }
+{
+    match form {
+        Form::Ready(given) => parsed_bool(given_bytes(block, given)),
+        Form::Shown { value, quotes } => parsed_shown(&value, quotes),
+    }
+}
+
 impl<'b, 'm, 'a> UnfinishedSpan<'b, 'm, 'a> {
     /// The text under a key.
     pub(crate) fn found_meta(&self, key: &[u8]) -> Option<Piece>
         ensures text { option_map (piece_in self.now) result ≡ found key.now (view self.now).meta }
         ensures held { IfSome result (λ p. piece_end p ≤ self.now.used) }
     {
-        let row = first(self.block, self.arena, &self.meta[..self.meta_len], key)?;
+        let row = first_text(self.block, self.arena, &self.meta[..self.meta_len], key)?;
         Some(row.value)
     }
 
@@ -107,10 +151,10 @@ impl<'b, 'm, 'a> UnfinishedSpan<'b, 'm, 'a> {
     }
 
     /// A text under a key, unless it is empty.
-    pub(crate) fn put_given(&mut self, key: Given<'_>, value: Given<'_>) -> Result<(), ArenaFull>
-        ensures { Does result self.old self.new (λ n _. put_given n (given_in self.old key.entry) (given_in self.old value.entry)) }
+    pub(crate) fn put_given(&mut self, key: Given<'_>, value: Form<'_>) -> Result<(), ArenaFull>
+        ensures { Does result self.old self.new (λ n _. put_given n (given_in self.old key.entry) (form_in self.old value.entry)) }
     {
-        if is_empty(given_bytes(self.block, value)) {
+        if says_nothing(self.block, value) {
             return Ok(());
         }
         self.put_meta(key, value)
@@ -128,8 +172,8 @@ impl<'b, 'm, 'a> UnfinishedSpan<'b, 'm, 'a> {
     }
 
     /// An attribute as a text.
-    pub(crate) fn put_text(&mut self, key: Given<'_>, value: Given<'_>) -> Result<(), ArenaFull>
-        ensures { Does result self.old self.new (λ n _. put_text n (given_in self.old key.entry) (given_in self.old value.entry)) }
+    pub(crate) fn put_text(&mut self, key: Given<'_>, value: Form<'_>) -> Result<(), ArenaFull>
+        ensures { Does result self.old self.new (λ n _. put_text n (given_in self.old key.entry) (form_in self.old value.entry)) }
     {
         let name = given_bytes(self.block, key);
         if is_empty(name) {
@@ -139,7 +183,7 @@ impl<'b, 'm, 'a> UnfinishedSpan<'b, 'm, 'a> {
             return Ok(());
         }
         if is(name, b"analytics.event") {
-            return self.put_sampling(parsed_bool(given_bytes(self.block, value)));
+            return self.put_sampling(parsed_form(self.block, value));
         }
         self.put_meta(key, value)
     }

@@ -10,6 +10,7 @@ ghost use Rattle.conversion.specs.Answers.{Tidy, Zeroed, GivenBack};
 ghost use Rattle.conversion.specs.Converts.{Converts};
 
 use crate::arena::ArenaFull;
+use crate::clearing::clear_behind;
 use crate::constants::Constant;
 use crate::dd_span::DdSpan;
 use crate::faults::ConvertFault;
@@ -195,7 +196,7 @@ impl<'b, 'm, 'a> UnfinishedSpan<'b, 'm, 'a> {
         let n = self.meta_len;
         clear_rows(self.meta, n);
         let n = self.used;
-        clear_from(self.arena, n);
+        clear_behind(self.arena, n);
     }
 }
 

@@ -14,8 +14,8 @@ ghost use Rattle.conversion.specs.View.{Does};
 use crate::arena::ArenaFull;
 use crate::attributes::is_word;
 use crate::constants::Constant;
-use crate::forms::plain_form;
-use crate::pieces::Given;
+use crate::forms::shown_form;
+use crate::pieces::{Form, Given};
 use crate::unfinished::UnfinishedSpan;
 use blocks::layout::{RawRow, is_in, raw_row};
 use blocks::lists::List;
@@ -65,7 +65,7 @@ impl<'b, 'm, 'a> UnfinishedSpan<'b, 'm, 'a> {
         if any_exception(self.block) {
             return self.put_meta(
                 Given::Quoted(Constant::HasException),
-                Given::Quoted(Constant::Flag(true)),
+                Form::Ready(Given::Quoted(Constant::Flag(true))),
             );
         }
         Ok(())
@@ -77,8 +77,7 @@ impl<'b, 'm, 'a> UnfinishedSpan<'b, 'm, 'a> {
     {
         match row {
             Some(row) => {
-                let mut out = [0u8; 4096];
-                let value = plain_form(self.block, row, &mut out);
+                let value = shown_form(self.block, row, false);
                 self.put_meta(Given::Quoted(name), value)
             }
             None => Ok(()),

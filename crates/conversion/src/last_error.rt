@@ -12,7 +12,7 @@ use crate::arena::ArenaFull;
 use crate::attributes::is_empty;
 use crate::constants::Constant;
 use crate::forms::{description_form, is_error};
-use crate::pieces::{Given, Piece, given_bytes};
+use crate::pieces::{Form, Given, Piece, given_bytes};
 use crate::unfinished::UnfinishedSpan;
 use blocks::header;
 
@@ -77,7 +77,7 @@ impl<'b, 'm, 'a> UnfinishedSpan<'b, 'm, 'a> {
         if is_empty(given_bytes(self.block, said)) {
             return self.other_message();
         }
-        self.put_meta(Given::Quoted(Constant::ErrorMessage), said)
+        self.put_meta(Given::Quoted(Constant::ErrorMessage), Form::Ready(said))
     }
 
     /// The message of the error, unless there is one: what the status says, or else what HTTP says.

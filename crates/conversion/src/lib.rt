@@ -4,9 +4,11 @@
 mod arena;
 mod attributes;
 mod by_key;
+mod clearing;
 pub mod constants;
 pub mod convert;
 pub mod dd_span;
+mod digests;
 pub mod events;
 mod exceptions;
 pub mod faults;

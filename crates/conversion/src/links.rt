@@ -35,9 +35,8 @@ impl<'b, 'm, 'a> UnfinishedSpan<'b, 'm, 'a> {
         if !is_attribute(below, block, i) {
             return Ok(());
         }
-        let mut out = [0u8; 4096];
-        let given = string_form(block, raw_row(block, i), &mut out);
-        self.hold(given)?;
+        let form = string_form(block, raw_row(block, i));
+        self.hold_form(form)?;
         Ok(())
     }
 

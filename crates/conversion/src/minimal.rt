@@ -4,13 +4,13 @@ ghost use Rattle.blocks.specs.Facts.{facts};
 ghost use Rattle.lent_bytes.specs.Memory.{portion};
 ghost use Rattle.conversion.specs.Forms.{own, number_in, int32};
 ghost use Rattle.conversion.specs.Steps.{error_by, first_error, kind_form, span_kind, status_code, calls_out, says_one, measured};
-ghost use Rattle.conversion.specs.Pieces.{given_text};
+ghost use Rattle.conversion.specs.Pieces.{form_text};
 ghost use Rattle.conversion.specs.View.{view, Made, Does};
 
 use crate::arena::ArenaFull;
 use crate::constants::Constant;
 use crate::forms::{last_row, number_of, string_form, value_of};
-use crate::pieces::Given;
+use crate::pieces::{Form, Given};
 use crate::unfinished::{ONE, UnfinishedSpan};
 use blocks::header;
 use blocks::lists::List;
@@ -66,12 +66,12 @@ fn is_measured(block: &[u8]) -> bool
 }
 
 /// The text of a span's kind: as it says itself, or by its kind.
-fn kind_form<'t>(block: &[u8], out: &'t mut [u8; 4096]) -> Given<'t>
-    ensures { given_text block.now result ≡ kind_form (own (facts block.now) (codes "datadog.span.kind")) (facts block.now).kind }
+fn kind_form<'t>(block: &'t [u8]) -> Form<'t>
+    ensures { form_text block.now result ≡ kind_form (own (facts block.now) (codes "datadog.span.kind")) (facts block.now).kind }
 {
     match last_row(block, List::Span, b"datadog.span.kind") {
-        Some(row) if value_of(block, row).is_some() => string_form(block, row, out),
-        _ => Given::Quoted(Constant::Kind(header::kind(block))),
+        Some(row) if value_of(block, row).is_some() => string_form(block, row),
+        _ => Form::Ready(Given::Quoted(Constant::Kind(header::kind(block)))),
     }
 }
 
@@ -81,7 +81,7 @@ fn write_decimal(number: u32, out: &mut [u8; 16]) -> usize
 {
     let mut text = TextWriter::new(out);
     text.push_decimal(number as u64);
-    text.finish()
+    text.len()
 }
 
 impl<'b, 'm, 'a> UnfinishedSpan<'b, 'm, 'a> {
@@ -97,8 +97,7 @@ impl<'b, 'm, 'a> UnfinishedSpan<'b, 'm, 'a> {
     pub(crate) fn span_kind(&mut self) -> Result<(), ArenaFull>
         ensures { Does result self.old self.new (λ n b. span_kind n (facts b)) }
     {
-        let mut out = [0u8; 4096];
-        let kind = kind_form(self.block, &mut out);
+        let kind = kind_form(self.block);
         self.put_meta(Given::Quoted(Constant::SpanKind), kind)
     }
 
@@ -114,7 +113,7 @@ impl<'b, 'm, 'a> UnfinishedSpan<'b, 'm, 'a> {
         let n = write_decimal(code, &mut out);
         self.put_meta(
             Given::Quoted(Constant::HttpStatusCode),
-            Given::Placed(part(&out, 0, n)),
+            Form::Ready(Given::Placed(part(&out, 0, n))),
         )
     }
 

@@ -2,15 +2,17 @@
 ghost use Rattle.std.specs.Prelude.{◌≡◌, ◌≤◌, length};
 ghost use Rattle.conversion.specs.Steps.{put_meta, put_again, put_metric};
 ghost use Rattle.conversion.specs.Constants.{constant_text};
-ghost use Rattle.conversion.specs.Spans.{quoted};
+ghost use Rattle.conversion.specs.Spans.{bytes_of, quoted};
+ghost use Rattle.conversion.specs.Digests.{digest};
 ghost use Rattle.conversion.specs.Pieces.{piece_end};
 ghost use Rattle.conversion.specs.Tables.{place_of, set_meta, push_meta, set_metric, push_metric};
-ghost use Rattle.conversion.specs.View.{view, piece_in, given_in, Made, Does};
+ghost use Rattle.conversion.specs.View.{view, piece_in, given_in, form_in, Made, Does};
 
 use crate::arena::ArenaFull;
 use crate::constants::Constant;
-use crate::pieces::{Given, MetaRow, Metric, Piece, given_bytes};
-use crate::rows::find;
+use crate::digests::digest;
+use crate::pieces::{Form, Given, MetaRow, Metric, Piece, given_bytes, piece_bytes};
+use crate::rows::{find_number, find_text};
 use crate::unfinished::{METRICS, UnfinishedSpan};
 
 impl<'b, 'm, 'a> UnfinishedSpan<'b, 'm, 'a> {
@@ -18,7 +20,7 @@ impl<'b, 'm, 'a> UnfinishedSpan<'b, 'm, 'a> {
     pub(crate) fn find_meta(&self, key: &[u8]) -> Option<usize>
         ensures { result ≡ place_of key.now (view self.now).meta }
     {
-        find(self.block, self.arena, &self.meta[..self.meta_len], key)
+        find_text(self.block, self.arena, &self.meta[..self.meta_len], key)
     }
 
     /// Another text in a row.
@@ -27,9 +29,16 @@ impl<'b, 'm, 'a> UnfinishedSpan<'b, 'm, 'a> {
         ensures { Made self.old self.new (set_meta i (piece_in self.old value) (view self.old)) }
     {
         if i < self.meta_len {
-            let key = self.meta[i].key;
-            self.meta[i] = MetaRow { key, value };
+            let MetaRow { key, digest, .. } = self.meta[i];
+            self.meta[i] = MetaRow { key, value, digest };
         }
+    }
+
+    /// The digest of a key that the span holds.
+    fn digest_of(&self, key: Piece) -> u64
+        ensures { result ≡ digest (bytes_of (piece_in self.now key)) }
+    {
+        digest(piece_bytes(self.block, self.arena, key))
     }
 
     /// A row behind the others, while there is room.
@@ -39,24 +48,25 @@ impl<'b, 'm, 'a> UnfinishedSpan<'b, 'm, 'a> {
         ensures { Made self.old self.new (push_meta (length self.old.meta.now) (piece_in self.old key) (piece_in self.old value) (view self.old)) }
     {
         let n = self.meta_len;
+        let digest = self.digest_of(key);
         if n < self.meta.len() {
-            self.meta[n] = MetaRow { key, value };
+            self.meta[n] = MetaRow { key, value, digest };
             self.meta_len = n + 1;
         }
     }
 
     /// A text under a key, in place of the one that is there. A new key is placed before its text.
-    pub(crate) fn put_meta(&mut self, key: Given<'_>, value: Given<'_>) -> Result<(), ArenaFull>
-        ensures { Does result self.old self.new (λ n _. put_meta n (given_in self.old key.entry) (given_in self.old value.entry)) }
+    pub(crate) fn put_meta(&mut self, key: Given<'_>, value: Form<'_>) -> Result<(), ArenaFull>
+        ensures { Does result self.old self.new (λ n _. put_meta n (given_in self.old key.entry) (form_in self.old value.entry)) }
     {
         match self.find_meta(given_bytes(self.block, key)) {
             Some(i) => {
-                let value = self.hold(value)?;
+                let value = self.hold_form(value)?;
                 self.set_meta(i, value);
             }
             None => {
                 let key = self.hold(key)?;
-                let value = self.hold(value)?;
+                let value = self.hold_form(value)?;
                 self.push_meta(key, value);
             }
         }
@@ -78,7 +88,7 @@ impl<'b, 'm, 'a> UnfinishedSpan<'b, 'm, 'a> {
     pub(crate) fn find_metric(&self, key: &[u8]) -> Option<usize>
         ensures { result ≡ place_of key.now (view self.now).metrics }
     {
-        find(
+        find_number(
             self.block,
             self.arena,
             &self.metrics[..self.metrics_len],

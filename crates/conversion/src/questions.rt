@@ -9,7 +9,7 @@ ghost use Rattle.conversion.specs.Questions.{meta_answer, metric_answer};
 
 use crate::dd_span::DdSpan;
 use crate::pieces::piece_bytes;
-use crate::rows::{first, row_at};
+use crate::rows::{first_number, row_at};
 use blocks::questions::QuestionFault;
 
 /// A text by its key.
@@ -82,7 +82,7 @@ impl<'b, 'm, 'a> DdSpan<'b, 'm, 'a> {
         ensures { result_ok result ≡ found key.now (shown self.now).metrics }
     {
         let rows = &self.made.metrics[..self.made.metrics_len];
-        match first(self.made.block, self.made.arena, rows, key) {
+        match first_number(self.made.block, self.made.arena, rows, key) {
             Some(row) => Ok(row.pattern),
             None => Err(QuestionFault::NoSuchItem),
         }

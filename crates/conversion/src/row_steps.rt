@@ -5,35 +5,69 @@ ghost use Rattle.blocks.specs.Layout.{raw_of};
 ghost use Rattle.blocks.specs.Lists.{plain_number};
 ghost use Rattle.blocks.specs.Projections.{of_list};
 ghost use Rattle.readers.specs.DatadogKeys.{begins};
+ghost use Rattle.conversion.specs.Spans.{placed};
 ghost use Rattle.conversion.specs.RowSteps.{row_step, row_turn};
-ghost use Rattle.conversion.specs.Steps.{each, resource_row, span_row, scope_row};
-ghost use Rattle.conversion.specs.View.{Does};
+ghost use Rattle.conversion.specs.Forms.{header_key};
+ghost use Rattle.conversion.specs.Steps.{each, put_text, put_number, row_key, resource_row, span_row, scope_row};
+ghost use Rattle.conversion.specs.View.{form_in, Does};
 
 use crate::arena::ArenaFull;
-use crate::forms::{display_form, key_form, metric_of, string_form};
-use crate::pieces::Given;
+use crate::forms::{header_key, key_form, metric_of, shown_form, string_form};
+use crate::pieces::{Form, Given, Key};
 use crate::unfinished::UnfinishedSpan;
 use blocks::layout::{RawRow, is_in, raw_row};
 use blocks::lists::{List, PlainList};
 use lent_bytes::fields::Number;
+use values::show::TEXT_BYTES;
 
-fn starts(text: &[u8], prefix: &[u8]) -> bool
+/// Whether a text begins with a prefix.
+pub(crate) fn starts(text: &[u8], prefix: &[u8]) -> bool
     ensures { result ≡ begins prefix.now text.now }
 {
     text.starts_with(prefix)
 }
 
 impl<'b, 'm, 'a> UnfinishedSpan<'b, 'm, 'a> {
+    /// A header of a request, by its name, as a text.
+    #[inline(never)]
+    fn put_header_text(&mut self, name: &[u8], value: Form<'_>) -> Result<(), ArenaFull>
+        ensures { Does result self.old self.new (λ n _. put_text n (placed (header_key name.now)) (form_in self.old value.entry)) }
+    {
+        let mut out = [0u8; TEXT_BYTES];
+        let key = Given::Placed(header_key(name, &mut out));
+        self.put_text(key, value)
+    }
+
+    /// A header of a request, by its name, as a number.
+    #[inline(never)]
+    fn put_header_number(&mut self, name: &[u8], pattern: u64) -> Result<(), ArenaFull>
+        ensures { Does result self.old self.new (λ _ _. put_number (placed (header_key name.now)) pattern) }
+    {
+        let mut out = [0u8; TEXT_BYTES];
+        let key = Given::Placed(header_key(name, &mut out));
+        self.put_number(key, pattern)
+    }
+
     /// An attribute of the resource.
     fn resource_row(&mut self, row: RawRow) -> Result<(), ArenaFull>
         ensures { Does result self.old self.new (λ n b. resource_row n (fact_at b (raw_of row))) }
     {
         let block = self.block;
-        let mut name = [0u8; 4096];
-        let mut text = [0u8; 4096];
-        let key = key_form(block, row, &mut name);
-        let value = string_form(block, row, &mut text);
-        self.put_text(key, value)
+        let value = string_form(block, row);
+        match key_form(block, row) {
+            Key::Ready(key) => self.put_text(key, value),
+            Key::Header(name) => self.put_header_text(name, value),
+        }
+    }
+
+    /// An attribute of the span as a number.
+    fn number_row(&mut self, row: RawRow, pattern: u64) -> Result<(), ArenaFull>
+        ensures { Does result self.old self.new (λ _ b. put_number (row_key (fact_at b (raw_of row))) pattern) }
+    {
+        match key_form(self.block, row) {
+            Key::Ready(key) => self.put_number(key, pattern),
+            Key::Header(name) => self.put_header_number(name, pattern),
+        }
     }
 
     /// An attribute of the span: a number, or a text.
@@ -44,20 +78,17 @@ impl<'b, 'm, 'a> UnfinishedSpan<'b, 'm, 'a> {
         if starts(row.key(block), b"datadog.") {
             return Ok(());
         }
-        let Some(pattern) = metric_of(block, row) else {
-            return self.resource_row(row);
-        };
-        let mut name = [0u8; 4096];
-        let key = key_form(block, row, &mut name);
-        self.put_number(key, pattern)
+        match metric_of(block, row) {
+            Some(pattern) => self.number_row(row, pattern),
+            None => self.resource_row(row),
+        }
     }
 
     /// An attribute of the scope.
     fn scope_row(&mut self, row: RawRow) -> Result<(), ArenaFull>
         ensures { Does result self.old self.new (λ n b. scope_row n (fact_at b (raw_of row))) }
     {
-        let mut text = [0u8; 4096];
-        let value = display_form(self.block, row, &mut text);
+        let value = shown_form(self.block, row, true);
         let key = Given::Lent {
             place: row.key_place,
             len: row.key_length as u32,

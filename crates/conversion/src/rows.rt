@@ -1,36 +1,13 @@
 //! Rows of a span that are looked up by their keys.
-ghost use Rattle.std.specs.Prelude.{◌≡◌};
+ghost use Rattle.std.specs.Prelude.{◌≡◌, map};
 ghost use Rattle.std.specs.List.{find, position, slice_get};
 ghost use Rattle.std.specs.Str.{bytes_eq};
-ghost use Rattle.conversion.specs.declared.pieces.Piece.{Piece};
 ghost use Rattle.conversion.specs.Spans.{bytes_of};
-ghost use Rattle.conversion.specs.Pieces.{piece_text};
+ghost use Rattle.conversion.specs.Pieces.{meta_pair, piece_text};
+ghost use Rattle.conversion.specs.Digests.{Digested};
 
-use crate::pieces::{MetaRow, Metric, Piece, piece_bytes};
-
-/// A row that has a key.
-pub(crate) trait Keyed {
-    ghost key: { Self → Piece };
-
-    fn key(&self) -> Piece
-        ensures { result ≡ key self.now };
-}
-
-impl Keyed for MetaRow {
-    ghost key = { λ r. r.key };
-
-    fn key(&self) -> Piece {
-        self.key
-    }
-}
-
-impl Keyed for Metric {
-    ghost key = { λ r. r.key };
-
-    fn key(&self) -> Piece {
-        self.key
-    }
-}
+use crate::digests::digest;
+use crate::pieces::{MetaRow, Metric, piece_bytes};
 
 /// The row with a number.
 pub(crate) fn row_at<R: Copy>(rows: &[R], i: usize) -> Option<R>
@@ -39,24 +16,49 @@ pub(crate) fn row_at<R: Copy>(rows: &[R], i: usize) -> Option<R>
     rows.get(i).copied()
 }
 
-/// The place of the first row with a key.
-pub(crate) fn find<R: Keyed>(block: &[u8], arena: &[u8], rows: &[R], key: &[u8]) -> Option<usize>
-    ensures { result ≡ position (λ r. bytes_eq (bytes_of (piece_text block.now arena.now (R.Keyed.key r))) key.now) rows.now }
+/// The place of the first text with a key.
+pub(crate) fn find_text(block: &[u8], arena: &[u8], rows: &[MetaRow], key: &[u8]) -> Option<usize>
+    requires { Digested rows.now (map (meta_pair block.now arena.now) rows.now) }
+    ensures { result ≡ position (λ r. bytes_eq (bytes_of (piece_text block.now arena.now r.key)) key.now) rows.now }
 {
-    rows.iter()
-        .position(|row| piece_bytes(block, arena, row.key()) == key)
+    let sought = digest(key);
+    rows.iter().position(|row| row.digest == sought && piece_bytes(block, arena, row.key) == key)
 }
 
-/// The first row with a key.
-pub(crate) fn first<R: Keyed + Copy>(
+/// The first text with a key.
+pub(crate) fn first_text(
     block: &[u8],
     arena: &[u8],
-    rows: &[R],
+    rows: &[MetaRow],
     key: &[u8],
-) -> Option<R>
-    ensures { result ≡ find (λ r. bytes_eq (bytes_of (piece_text block.now arena.now (R.Keyed.key r))) key.now) rows.now }
+) -> Option<MetaRow>
+    requires { Digested rows.now (map (meta_pair block.now arena.now) rows.now) }
+    ensures { result ≡ find (λ r. bytes_eq (bytes_of (piece_text block.now arena.now r.key)) key.now) rows.now }
+{
+    let sought = digest(key);
+    rows.iter()
+        .find(|row| row.digest == sought && piece_bytes(block, arena, row.key) == key)
+        .copied()
+}
+
+/// The place of the first number with a key.
+pub(crate) fn find_number(block: &[u8], arena: &[u8], rows: &[Metric], key: &[u8]) -> Option<usize>
+    ensures { result ≡ position (λ r. bytes_eq (bytes_of (piece_text block.now arena.now r.key)) key.now) rows.now }
 {
     rows.iter()
-        .find(|row| piece_bytes(block, arena, row.key()) == key)
+        .position(|row| piece_bytes(block, arena, row.key) == key)
+}
+
+/// The first number with a key.
+pub(crate) fn first_number(
+    block: &[u8],
+    arena: &[u8],
+    rows: &[Metric],
+    key: &[u8],
+) -> Option<Metric>
+    ensures { result ≡ find (λ r. bytes_eq (bytes_of (piece_text block.now arena.now r.key)) key.now) rows.now }
+{
+    rows.iter()
+        .find(|row| piece_bytes(block, arena, row.key) == key)
         .copied()
 }

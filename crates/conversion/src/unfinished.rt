@@ -1,6 +1,7 @@
 //! A Datadog span in lent memory, as far as the steps have made it.
-ghost use Rattle.std.specs.Prelude.{◌≡◌, ◌≤◌, length, take};
-ghost use Rattle.conversion.specs.Pieces.{piece_end, meta_end, metrics_end};
+ghost use Rattle.std.specs.Prelude.{◌≡◌, ◌≤◌, length, map, take};
+ghost use Rattle.conversion.specs.Pieces.{meta_pair, piece_end, meta_end, metrics_end};
+ghost use Rattle.conversion.specs.Digests.{Digested};
 
 use crate::pieces::{MetaRow, Metric, Piece};
 
@@ -42,6 +43,7 @@ pub struct UnfinishedSpan<'b, 'm, 'a> {
     pub ghost counts: { metrics_len ≤ 130 },
     pub ghost table: { length metrics ≡ 130 },
     pub ghost meta_held: { meta_end (take meta_len meta.now) ≤ used },
+    pub ghost meta_digests: { Digested (take meta_len meta.now) (map (meta_pair block.now arena.now) (take meta_len meta.now)) },
     pub ghost metrics_held: { metrics_end (take metrics_len metrics) ≤ used },
     pub ghost service_held: { piece_end head.service ≤ used },
     pub ghost name_held: { piece_end head.name ≤ used },

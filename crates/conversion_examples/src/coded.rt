@@ -41,6 +41,10 @@ impl OtelSpan for Coded {
         is_code(key)
     }
 
+    fn has_res_attr(&self, key: AttributeKey) -> bool {
+        is_environment(key)
+    }
+
     fn get_attr_str_opt(&self, key: AttributeKey, out: &mut [u8; 4096]) -> Option<usize> {
         if is_code(key) {
             return Some(write_text(out, b"404"));

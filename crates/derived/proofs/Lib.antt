@@ -1,4 +1,2 @@
-pub mod Absent
 pub mod Filling
 pub mod Names
-pub mod Types

@@ -28,8 +28,11 @@ abbrev pub environment : Reading → List ℕ
 environment r = or_else (res_span_text r (datadog_env ∷ [])) (first_resource_text r (deployment_environment_name ∷ deployment_environment ∷ []))
 
 -- of the span before the resource
+abbrev pub resource_service : Reading → List ℕ
+resource_service r = or_else (first_resource_text r (service_key ∷ [])) (codes "otlpresourcenoservicename")
+
 abbrev pub service_name : Reading → List ℕ
-service_name r = or_else (span_text r service_key) (or_else (first_resource_text r (service_key ∷ [])) (codes "otlpresourcenoservicename"))
+service_name r = or_else (span_text r service_key) (resource_service r)
 
 -- a number of 32 bits without a sign; another number is none
 abbrev pub narrowed : Option ℤ → Option ℕ

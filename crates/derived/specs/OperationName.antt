@@ -37,8 +37,12 @@ aws_name r = or_absent (if_given (span_text r rpc_service) (codes "aws." ++ (low
 abbrev pub rpc_client_name : Reading → Option (List ℕ)
 rpc_client_name r = if_given (span_text r rpc_system) (cond (bytes_eq (span_text r rpc_system) (codes "aws-api")) (aws_name r) (lowered (span_text r rpc_system) ++ codes ".client.request"))
 
+-- a text with a word behind it
+abbrev pub named_after : Reading → ℕ → List ℕ → Option (List ℕ)
+named_after r k word = if_given (span_text r k) (lowered (span_text r k) ++ word)
+
 abbrev pub rpc_server_name : Reading → Option (List ℕ)
-rpc_server_name r = if_given (span_text r rpc_system) (lowered (span_text r rpc_system) ++ codes ".server.request")
+rpc_server_name r = named_after r rpc_system (codes ".server.request")
 
 -- `aws.my-function.invoke`, by who invokes, and `http.invoke`, by what triggers
 abbrev pub invoked_name : Reading → Option (List ℕ)
@@ -47,7 +51,7 @@ invoked_name r =
     (lowered (span_text r faas_invoked_provider) ++ (codes "." ++ (lowered (span_text r faas_invoked_name) ++ codes ".invoke")))
 
 abbrev pub triggered_name : Reading → Option (List ℕ)
-triggered_name r = if_given (span_text r faas_trigger) (lowered (span_text r faas_trigger) ++ codes ".invoke")
+triggered_name r = named_after r faas_trigger (codes ".invoke")
 
 abbrev pub graphql_name : Reading → Option (List ℕ)
 graphql_name r = if_given (span_text r graphql_operation_type) (codes "graphql.server.request")

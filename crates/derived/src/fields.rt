@@ -3,23 +3,24 @@
 //! which differ in what they do without the attribute.
 ghost use Rattle.std.specs.Prelude.{◌≡◌, ℕ, ◌<◌, ◌≤◌, List, length};
 ghost use Rattle.std.specs.Fn.{FnOnceReturnsAtMut};
-ghost use Rattle.std.specs.Option.{MatchOption};
-ghost use Rattle.readers.specs.Texts.{Filled, Offered, span_text};
+ghost use Rattle.std.specs.Option.{MatchOption, option_map};
+ghost use Rattle.lent_bytes.specs.Memory.{portion};
+ghost use Rattle.readers.specs.Texts.{Filled, span_text};
 ghost use Rattle.derived.specs.Fields.{own_text, field_name, field_resource, field_type, field_service, field_environment, field_status_code};
 
-use crate::operation_name::get_otel_operation_name_v2;
-use crate::resource_name::get_otel_resource_v2;
+use crate::operation_name::write_operation_name;
+use crate::resource_name::write_resource_name;
 use crate::span_fields::{
     code_under, get_otel_env, get_otel_service, get_otel_span_type, get_otel_status_code,
 };
-use crate::texts::{compose, given_text};
+use crate::texts::{clear_behind, compose, given_text};
 use names::attribute_keys::*;
 use readers::otel_util::{OtelSpan, get_attr_str};
 use readers::texts::Text;
 
-/// A span's text in the larger memory, if it is not empty; else the memory is as it was.
+/// A span's text at the front of the larger memory, if it is not empty.
 fn own_text<S: OtelSpan>(span: &S, key: AttributeKey, out: &mut [u8; 8200]) -> Option<usize>
-    ensures { Offered 8200 (own_text (S.OtelSpan.reading span.now) key.idx) result out.old out.new }
+    ensures { option_map (portion out.new 0) result ≡ own_text (S.OtelSpan.reading span.now) key.idx }
 {
     if !span.has_attr(key) {
         return None;
@@ -32,7 +33,7 @@ fn own_text<S: OtelSpan>(span: &S, key: AttributeKey, out: &mut [u8; 8200]) -> O
     Some(compose(out, b"", b"", b"", Text::front(&text, n).bytes))
 }
 
-/// A span's text in the larger memory, if it is not empty, and else what is derived.
+/// A span's text at the front of the larger memory, if it is not empty, and else what is derived.
 fn own_text_or<S: OtelSpan, F: FnOnce(&mut [u8; 8200]) -> usize>(
     span: &S,
     key: AttributeKey,
@@ -40,7 +41,7 @@ fn own_text_or<S: OtelSpan, F: FnOnce(&mut [u8; 8200]) -> usize>(
     derive: F,
 ) -> usize
     requires { F.IsAlwaysCallable derive }
-    ensures { MatchOption (own_text (S.OtelSpan.reading span.now) key.idx) ((m : List ℕ) × FnOnceReturnsAtMut F.FnOnce derive m result out.new) (λ t. Filled 8200 t result out.new) }
+    ensures { MatchOption (own_text (S.OtelSpan.reading span.now) key.idx) ((m : List ℕ) × FnOnceReturnsAtMut F.FnOnce derive m result out.new) (λ t. portion out.new 0 result ≡ t) }
 {
     // With `unwrap_or_else` the proof did not close: what its closure leaves in memory is not followed.
     match own_text(span, key, out) {
@@ -53,24 +54,26 @@ fn own_text_or<S: OtelSpan, F: FnOnce(&mut [u8; 8200]) -> usize>(
 pub fn datadog_name<S: OtelSpan>(span: &S, out: &mut [u8; 8200]) -> usize
     ensures { Filled 8200 (field_name (S.OtelSpan.reading span.now)) result out.new }
 {
-    own_text_or(
+    let n = own_text_or(
         span,
         DATADOG_NAME,
         out,
-        |out| get_otel_operation_name_v2(span, out),
-    )
+        |out| write_operation_name(span, out),
+    );
+    clear_behind(out, n)
 }
 
 /// The resource.
 pub fn datadog_resource<S: OtelSpan>(span: &S, out: &mut [u8; 8200]) -> usize
     ensures { Filled 8200 (field_resource (S.OtelSpan.reading span.now)) result out.new }
 {
-    own_text_or(
+    let n = own_text_or(
         span,
         DATADOG_RESOURCE,
         out,
-        |out| get_otel_resource_v2(span, out),
-    )
+        |out| write_resource_name(span, out),
+    );
+    clear_behind(out, n)
 }
 
 /// An attribute of Datadog's own, unless it is empty, and else what is derived. Not one function with the above: a bound

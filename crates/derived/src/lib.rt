@@ -1,6 +1,7 @@
 //! What is derived from a reading: names, types, and the six fields of a Datadog span.
 #![tactic(auto)]
 
+mod composed_names;
 pub mod db_types;
 pub mod fields;
 pub mod operation_name;

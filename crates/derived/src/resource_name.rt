@@ -1,35 +1,39 @@
 //! The resource name of a span. Parameters stay apart, and names are tried one after the other, as in
 //! `operation_name`.
 ghost use Rattle.std.specs.Prelude.{◌≡◌};
-ghost use Rattle.readers.specs.Texts.{Filled, Offered, or_absent, if_given, res_span_text, places_of};
+ghost use Rattle.std.specs.Option.{option_map};
+ghost use Rattle.lent_bytes.specs.Memory.{portion};
+ghost use Rattle.readers.specs.Texts.{Filled, res_span_text, places_of};
 ghost use Rattle.derived.specs.ResourceName.{beside, detailed, method_name, route_by, http_resource, messaging_resource, asked_text, database_resource, given_resource, resource_by_use, resource_name};
 
-use crate::texts::compose;
+use crate::texts::{clear_behind, compose};
 use blocks::span_kind::SpanKind;
 use names::attribute_keys::*;
-use readers::otel_util::{OtelSpan, get_res_span_attributes};
+use readers::otel_util::{OtelSpan, find_res_span_text, res_span_text};
 use readers::texts::Text;
-
-/// The first text under the keys, of the resource or of the span.
-fn res_span_text<'t, S: OtelSpan>(
-    span: &S,
-    keys: &[AttributeKey],
-    memory: &'t mut [u8; 4096],
-) -> Text<'t>
-    ensures { result.bytes.now ≡ res_span_text (S.OtelSpan.reading span.now) (places_of keys.now) }
-{
-    let n = get_res_span_attributes(span, keys, memory);
-    Text::front(memory, n)
-}
 
 /// A text with a detail behind it, if there is one.
 fn with_detail(out: &mut [u8; 8200], text: Text<'_>, detail: Text<'_>) -> usize
-    ensures { Filled 8200 (beside text.entry.bytes.now detail.entry.bytes.now) result out.new }
+    ensures { portion out.new 0 result ≡ beside text.entry.bytes.now detail.entry.bytes.now }
 {
     if detail.is_empty() {
         return compose(out, b"", b"", b"", text.bytes);
     }
     compose(out, b"", text.bytes, b" ", detail.bytes)
+}
+
+/// A text with the text under some keys behind it.
+fn with_text_under<S: OtelSpan>(
+    span: &S,
+    name: Text<'_>,
+    details: &[AttributeKey],
+    out: &mut [u8; 8200],
+) -> usize
+    ensures { portion out.new 0 result ≡ beside name.entry.bytes.now (res_span_text (S.OtelSpan.reading span.now) (places_of details.now)) }
+{
+    let mut memory = [0u8; 4096];
+    let detail = res_span_text(span, details, &mut memory);
+    with_detail(out, name, detail)
 }
 
 /// The text under some keys with the text under others behind it.
@@ -40,15 +44,13 @@ fn detailed_name<S: OtelSpan>(
     memory: &mut [u8; 4096],
     out: &mut [u8; 8200],
 ) -> Option<usize>
-    ensures { Offered 8200 (detailed (res_span_text (S.OtelSpan.reading span.now) (places_of keys.now)) (res_span_text (S.OtelSpan.reading span.now) (places_of details.now))) result out.old out.new }
+    ensures { option_map (portion out.new 0) result ≡ detailed (res_span_text (S.OtelSpan.reading span.now) (places_of keys.now)) (res_span_text (S.OtelSpan.reading span.now) (places_of details.now)) }
 {
     let name = res_span_text(span, keys, memory);
     if name.is_empty() {
         return None;
     }
-    let mut other = [0u8; 4096];
-    let detail = res_span_text(span, details, &mut other);
-    Some(with_detail(out, name, detail))
+    Some(with_text_under(span, name, details, out))
 }
 
 /// A method by its name.
@@ -62,13 +64,13 @@ fn method_name(method: Text<'_>) -> Text<'_>
     }
 }
 
-/// The route, which only a server knows.
-fn route<'t, S: OtelSpan>(span: &S, memory: &'t mut [u8; 4096]) -> Text<'t>
-    ensures { result.bytes.now ≡ route_by (S.OtelSpan.reading span.now) (S.OtelSpan.reading span.now).kind }
+/// A method with the route behind it, which only a server knows.
+fn with_route<S: OtelSpan>(span: &S, method: Text<'_>, out: &mut [u8; 8200]) -> usize
+    ensures { portion out.new 0 result ≡ beside method.entry.bytes.now (route_by (S.OtelSpan.reading span.now) (S.OtelSpan.reading span.now).kind) }
 {
     match span.span_kind() {
-        SpanKind::Server => res_span_text(span, &[HTTP_ROUTE], memory),
-        _ => Text::empty(),
+        SpanKind::Server => with_text_under(span, method, &[HTTP_ROUTE], out),
+        _ => compose(out, b"", b"", b"", method.bytes),
     }
 }
 
@@ -77,25 +79,23 @@ fn http_resource<S: OtelSpan>(
     memory: &mut [u8; 4096],
     out: &mut [u8; 8200],
 ) -> Option<usize>
-    ensures { Offered 8200 (http_resource (S.OtelSpan.reading span.now)) result out.old out.new }
+    ensures { option_map (portion out.new 0) result ≡ http_resource (S.OtelSpan.reading span.now) }
 {
     let method = res_span_text(span, &[HTTP_REQUEST_METHOD, HTTP_METHOD], memory);
     if method.is_empty() {
         return None;
     }
-    let mut other = [0u8; 4096];
-    Some(with_detail(out, method_name(method), route(span, &mut other)))
+    Some(with_route(span, method_name(method), out))
 }
 
 /// What a database was asked.
 fn asked_text<'t, S: OtelSpan>(span: &S, memory: &'t mut [u8; 4096]) -> Text<'t>
     ensures { result.bytes.now ≡ asked_text (S.OtelSpan.reading span.now) }
 {
-    let n = get_res_span_attributes(span, &[DB_STATEMENT], memory);
-    if n > 0 {
-        return Text::front(memory, n);
+    match find_res_span_text(span, &[DB_STATEMENT], memory) {
+        Some(n) if n > 0 => Text::front(memory, n),
+        _ => res_span_text(span, &[DB_QUERY_TEXT], memory),
     }
-    res_span_text(span, &[DB_QUERY_TEXT], memory)
 }
 
 fn database_resource<S: OtelSpan>(
@@ -103,10 +103,10 @@ fn database_resource<S: OtelSpan>(
     memory: &mut [u8; 4096],
     out: &mut [u8; 8200],
 ) -> Option<usize>
-    ensures { Offered 8200 (database_resource (S.OtelSpan.reading span.now)) result out.old out.new }
+    ensures { option_map (portion out.new 0) result ≡ database_resource (S.OtelSpan.reading span.now) }
 {
-    let n = get_res_span_attributes(span, &[DB_SYSTEM_NAME, DB_SYSTEM], memory);
-    if n == 0 {
+    let system = res_span_text(span, &[DB_SYSTEM_NAME, DB_SYSTEM], memory);
+    if system.is_empty() {
         return None;
     }
     let asked = asked_text(span, memory);
@@ -122,7 +122,7 @@ fn given_resource<S: OtelSpan>(
     memory: &mut [u8; 4096],
     out: &mut [u8; 8200],
 ) -> Option<usize>
-    ensures { Offered 8200 (given_resource (S.OtelSpan.reading span.now)) result out.old out.new }
+    ensures { option_map (portion out.new 0) result ≡ given_resource (S.OtelSpan.reading span.now) }
 {
     let given = res_span_text(span, &[RESOURCE_NAME], memory);
     if given.is_empty() {
@@ -133,7 +133,7 @@ fn given_resource<S: OtelSpan>(
 
 /// The span's own name.
 fn own_name<S: OtelSpan>(span: &S, memory: &mut [u8; 4096], out: &mut [u8; 8200]) -> usize
-    ensures { Filled 8200 (S.OtelSpan.reading span.now).name result out.new }
+    ensures { portion out.new 0 result ≡ (S.OtelSpan.reading span.now).name }
 {
     let n = span.name(memory);
     compose(out, b"", b"", b"", Text::front(memory, n).bytes)
@@ -141,7 +141,7 @@ fn own_name<S: OtelSpan>(span: &S, memory: &mut [u8; 4096], out: &mut [u8; 8200]
 
 /// By what a span calls or asks, in this order, and else its name.
 fn resource_by_use<S: OtelSpan>(span: &S, memory: &mut [u8; 4096], out: &mut [u8; 8200]) -> usize
-    ensures { Filled 8200 (resource_by_use (S.OtelSpan.reading span.now)) result out.new }
+    ensures { portion out.new 0 result ≡ resource_by_use (S.OtelSpan.reading span.now) }
 {
     if let Some(n) = detailed_name(span, &[RPC_METHOD], &[RPC_SERVICE], memory, out) {
         return n;
@@ -166,7 +166,7 @@ fn messaging_resource<S: OtelSpan>(
     memory: &mut [u8; 4096],
     out: &mut [u8; 8200],
 ) -> Option<usize>
-    ensures { Offered 8200 (messaging_resource (S.OtelSpan.reading span.now)) result out.old out.new }
+    ensures { option_map (portion out.new 0) result ≡ messaging_resource (S.OtelSpan.reading span.now) }
 {
     detailed_name(
         span,
@@ -177,10 +177,10 @@ fn messaging_resource<S: OtelSpan>(
     )
 }
 
-/// The resource name: the attribute of that name, or else by what the span worked on, and last the
-/// span's own name.
-pub fn get_otel_resource_v2<S: OtelSpan>(span: &S, out: &mut [u8; 8200]) -> usize
-    ensures { Filled 8200 (resource_name (S.OtelSpan.reading span.now)) result out.new }
+/// The resource name at the front of `out`, with nothing cleared behind it: the attribute of that name, or else by what
+/// the span worked on, and last the span's own name.
+pub fn write_resource_name<S: OtelSpan>(span: &S, out: &mut [u8; 8200]) -> usize
+    ensures { portion out.new 0 result ≡ resource_name (S.OtelSpan.reading span.now) }
 {
     let mut memory = [0u8; 4096];
     if let Some(n) = given_resource(span, &mut memory, out) {
@@ -193,4 +193,12 @@ pub fn get_otel_resource_v2<S: OtelSpan>(span: &S, out: &mut [u8; 8200]) -> usiz
         return n;
     }
     resource_by_use(span, &mut memory, out)
+}
+
+/// The resource name, with zeros in all memory behind it.
+pub fn get_otel_resource_v2<S: OtelSpan>(span: &S, out: &mut [u8; 8200]) -> usize
+    ensures { Filled 8200 (resource_name (S.OtelSpan.reading span.now)) result out.new }
+{
+    let n = write_resource_name(span, out);
+    clear_behind(out, n)
 }

@@ -1,15 +1,14 @@
-//! Texts composed in memory that holds them whole.
-ghost use Rattle.std.specs.Prelude.{◌≡◌, ◌+◌, ◌<◌, ◌≤◌, ◌++◌, [], length};
-ghost use Rattle.lent_bytes.specs.Memory.{padded};
+//! Texts composed at the front of memory that holds them whole.
+ghost use Rattle.std.specs.Prelude.{◌≡◌, ◌+◌, ◌<◌, ◌≤◌, ◌++◌, length};
+ghost use Rattle.lent_bytes.specs.Memory.{portion, padded};
 ghost use Rattle.readers.specs.Reading.{size_of};
 ghost use Rattle.readers.specs.Texts.{Filled, span_text, first_span_text, places_of};
 ghost use Rattle.derived.specs.OperationName.{lowered};
 ghost use Rattle.derived.specs.Fields.{own_text};
 
-use lent_bytes::memory::write;
-use lent_bytes::texts::TextWriter;
+use lent_bytes::texts::{TextWriter, write_text};
 use names::attribute_keys::AttributeKey;
-use readers::first_texts::get_span_attributes;
+use readers::first_texts::find_span_text;
 use readers::otel_util::{OtelSpan, get_attr_str};
 use readers::texts::Text;
 
@@ -53,33 +52,36 @@ pub(crate) fn lower_first<'t, S: OtelSpan>(
 ) -> Text<'t>
     ensures { result.bytes.now ≡ lowered (first_span_text (S.OtelSpan.reading span.now) (places_of keys.now)) }
 {
-    if !keys.iter().any(|key| span.has_attr(*key)) {
-        return Text::empty();
+    match find_span_text(span, keys, memory) {
+        Some(n) => Text::lower_front(memory, n),
+        None => Text::empty(),
     }
-    let n = get_span_attributes(span, keys, memory);
-    Text::lower_front(memory, n)
 }
 
-/// Four texts one behind the other at the front of `out`, zeros behind; some may be empty. Not a slice of texts: the
-/// borrow checker does not cover an array of references to memory of several owners.
+/// Four texts one behind the other at the front of `out`; some may be empty. Nothing is cleared behind them. Not a slice
+/// of texts: the borrow checker does not cover an array of references to memory of several owners.
 pub(crate) fn compose(out: &mut [u8; 8200], a: &[u8], b: &[u8], c: &[u8], d: &[u8]) -> usize
     requires { length a.now + length b.now + length c.now + length d.now ≤ 8200 }
-    ensures { Filled 8200 (a.now ++ (b.now ++ (c.now ++ d.now))) result out.new }
+    ensures { portion out.new 0 result ≡ a.now ++ (b.now ++ (c.now ++ d.now)) }
 {
     let mut text = TextWriter::new(out);
     text.push(a);
     text.push(b);
     text.push(c);
     text.push(d);
-    text.finish()
+    text.len()
 }
 
-/// A text at the front of `out`, which is clear: there is nothing to be cleared behind.
-pub(crate) fn place(out: &mut [u8; 4096], text: &[u8]) -> usize
-    requires clear { out.old ≡ padded 4096 [] }
-    requires short { length text.now ≤ 4096 }
-    ensures { Filled 4096 text.now result out.new }
+/// Zeros behind the first `n` bytes.
+pub(crate) fn clear_behind(out: &mut [u8; 8200], n: usize) -> usize
+    ensures { Filled 8200 (portion out.old 0 n) result out.new }
 {
-    write(out, 0, text);
-    text.len()
+    TextWriter::behind(out, n).finish()
+}
+
+/// A text at the front of `out`, with zeros in all memory behind it.
+pub(crate) fn fill(out: &mut [u8; 4096], text: Text<'_>) -> usize
+    ensures { Filled 4096 text.entry.bytes.now result out.new }
+{
+    write_text(out, text.bytes)
 }

@@ -127,6 +127,10 @@ impl<S: OtelSpan> OtelSpan for LaterEdition<S> {
         self.below.has_attr(key)
     }
 
+    fn has_res_attr(&self, key: AttributeKey) -> bool {
+        self.below.has_res_attr(key)
+    }
+
     fn get_attr_str_opt(&self, key: AttributeKey, out: &mut [u8; 4096]) -> Option<usize> {
         let n = self.below.get_attr_str_opt(key, out)?;
         Some(put_earlier(key, out, n))

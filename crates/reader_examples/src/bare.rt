@@ -27,6 +27,10 @@ impl OtelSpan for Bare {
         false
     }
 
+    fn has_res_attr(&self, _key: AttributeKey) -> bool {
+        false
+    }
+
     fn get_attr_str_opt(&self, _key: AttributeKey, out: &mut [u8; 4096]) -> Option<usize> {
         TextWriter::new(out).finish();
         None

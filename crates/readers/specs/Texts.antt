@@ -1,5 +1,6 @@
 -- Texts in memory, and which of several texts counts.
 use Rattle.std.specs.Prelude.{◌≡◌, ℕ, List, [], ◌∷◌, map, length, Some, None, Option}
+use Rattle.std.specs.Option.{MatchOption}
 use Rattle.lent_bytes.specs.Memory.{padded}
 use Rattle.names.specs.declared.attribute_keys.AttributeKey.{AttributeKey}
 use Rattle.readers.specs.Reading.{Reading, text_of, bytes_of, size_of}
@@ -8,6 +9,15 @@ use Rattle.readers.specs.Reading.{Reading, text_of, bytes_of, size_of}
 pub record Filled (w : ℕ) (t : List ℕ) (r : ℕ) (after : List ℕ) : Type 0 where
   pub len : r ≡ length t
   pub text : after ≡ padded w t
+
+-- a text that may be absent: if there is one it is at the front of w bytes, and else nothing is said of them
+pub record Found (w : ℕ) (o : Option (List ℕ)) (r : Option ℕ) (after : List ℕ) : Type 0 where
+  pub size : r ≡ size_of o
+  pub text : MatchOption r (Unit {0}) (λ n. after ≡ padded w (bytes_of o))
+
+-- a text that is found, or is empty; where none is found nothing is said of the bytes
+abbrev pub Held : ℕ → List ℕ → Option ℕ → List ℕ → Type 0
+Held w t r after = MatchOption r (t ≡ []) (λ n. Filled w t n after)
 
 -- a, or b where a is empty
 abbrev pub or_else : List ℕ → List ℕ → List ℕ
@@ -29,6 +39,10 @@ abbrev pub if_given : List ℕ → List ℕ → Option (List ℕ)
 if_given [] name = None
 if_given (x ∷ t) name = Some name
 
+-- a text, if it is not empty
+abbrev pub not_empty : List ℕ → Option (List ℕ)
+not_empty t = if_given t t
+
 abbrev pub span_text : Reading → ℕ → List ℕ
 span_text r k = bytes_of (text_of (r.span k))
 
@@ -47,6 +61,15 @@ abbrev pub res_span_text : Reading → List ℕ → List ℕ
 res_span_text r [] = []
 res_span_text r (k ∷ ks) = or_absent (res_span_opt r k) (res_span_text r ks)
 
+-- the length of that text, if there is one
+abbrev pub or_size : Option ℕ → Option ℕ → Option ℕ
+or_size None b = b
+or_size (Some n) b = Some n
+
+abbrev pub res_span_size : Reading → List ℕ → Option ℕ
+res_span_size r [] = None
+res_span_size r (k ∷ ks) = or_size (size_of (res_span_opt r k)) (res_span_size r ks)
+
 -- the first text under the keys that is not empty, of the texts under all keys
 abbrev pub first_text : (ℕ → List ℕ) → List ℕ → List ℕ
 first_text t [] = []
@@ -58,12 +81,3 @@ first_span_text r ks = first_text (span_text r) ks
 
 abbrev pub first_resource_text : Reading → List ℕ → List ℕ
 first_resource_text r ks = first_text (resource_text r) ks
-
--- a text that is written if there is one; else the memory stays as it was
-abbrev pub offered_in : ℕ → Option (List ℕ) → List ℕ → List ℕ
-offered_in w None before = before
-offered_in w (Some t) before = padded w t
-
-pub record Offered (w : ℕ) (o : Option (List ℕ)) (r : Option ℕ) (before after : List ℕ) : Type 0 where
-  pub size : r ≡ size_of o
-  pub text : after ≡ offered_in w o before

@@ -1,9 +1,12 @@
 //! Texts at the front of the memory that a reader wrote them to.
 ghost use Rattle.std.specs.Prelude.{◌≡◌, ◌≤◌, ◌==◌, [], map, length};
 ghost use Rattle.std.specs.Char.{to_ascii_lowercase};
+ghost use Rattle.std.specs.Option.{MatchOption};
 ghost use Rattle.lent_bytes.specs.Memory.{portion};
+ghost use Rattle.readers.specs.Texts.{Filled};
 
 use lent_bytes::memory::part;
+use lent_bytes::texts::TextWriter;
 use names::case::to_lower_case;
 
 /// A text as a reader gives it, in memory that was handed to it: at most 4,096 bytes.
@@ -11,6 +14,16 @@ use names::case::to_lower_case;
 pub struct Text<'t> {
     pub bytes: &'t [u8],
     pub ghost short: { length bytes.now ≤ 4096 },
+}
+
+/// The length of a text that was found; where none was, zeros in all memory.
+pub(crate) fn or_clear(found: Option<usize>, out: &mut [u8; 4096]) -> usize
+    ensures { MatchOption found (Filled 4096 [] result out.new) (λ n. (result ≡ n) × (out.new ≡ out.old)) }
+{
+    match found {
+        Some(n) => n,
+        None => TextWriter::new(out).finish(),
+    }
 }
 
 impl<'t> Text<'t> {

@@ -1,5 +1,5 @@
 //! A span in a block, with the rows of the known keys noted.
-ghost use Rattle.std.specs.Prelude.{◌≡◌, ℕ, List, None, slice_index_or};
+ghost use Rattle.std.specs.Prelude.{◌≡◌, ℕ, List, None, is_some, slice_index_or};
 ghost use Rattle.std.specs.Option.{option_map};
 ghost use Rattle.lent_bytes.specs.Memory.{Placed, clip, padded};
 ghost use Rattle.names.specs.Keys.{key_at, known};
@@ -106,6 +106,16 @@ fn noted_row<'a>(block: &'a [u8], indices: &AttributeIndices, key: AttributeKey)
     }
 }
 
+/// Whether a row was noted for a key.
+fn is_noted(block: &[u8], indices: &AttributeIndices, key: AttributeKey) -> bool
+    ensures { result ≡ is_some (row_in block.now (slice_index_or indices.now.places key.idx None)) }
+{
+    match indices.get(key) {
+        Some(i) => i < row_count(block) as usize,
+        None => false,
+    }
+}
+
 /// Notes the row `i` under the span's attributes or the resource's, by its list.
 fn note_row(
     row: &Row<'_>,
@@ -163,7 +173,11 @@ impl<'a> OtelSpan for SpanExtractArgs<'a> {
     }
 
     fn has_attr(&self, key: AttributeKey) -> bool {
-        noted_row(self.block, &self.span_attrs, key).is_some()
+        is_noted(self.block, &self.span_attrs, key)
+    }
+
+    fn has_res_attr(&self, key: AttributeKey) -> bool {
+        is_noted(self.block, &self.res_attrs, key)
     }
 
     fn get_attr_str_opt(&self, key: AttributeKey, out: &mut [u8; 4096]) -> Option<usize> {

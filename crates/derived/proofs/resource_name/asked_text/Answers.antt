@@ -3,5 +3,5 @@ use Rattle.readers.proofs.Fronts.{portion-padded}
 use Rattle.readers.proofs.Firsts.{here}
 use Rattle.derived.proofs.resource_name.asked_text.Goals as goal
 
-pub returns-then-n-gt0 : goal.returns-then-n-gt0
-returns-then-n-gt0 g c = search (rules, portion-padded, here)
+pub returns-in-Some : goal.returns-in-Some
+returns-in-Some g c = search (rules, portion-padded, here)

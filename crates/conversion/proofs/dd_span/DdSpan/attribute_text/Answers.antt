@@ -14,4 +14,4 @@ overflow_add-at c =
 pub returns : goal.returns
 returns c =
     let s = c.args.self.now in
-    c.piece_bytes.ensures ∙ ap bytes_of (text_found s.made.block.now s.made.arena.now c.args.j s.links_at c.len_above.result _ _ c.raw_row.result c.requires s.links_held (search rules) c.string_form-given.ensures (search rules) c.piece_at-piece.ensures)
+    c.piece_bytes.ensures ∙ ap bytes_of (text_found s.made.block.now s.made.arena.now c.args.j s.links_at c.len_above.result _ _ c.raw_row.result c.requires s.links_held (search rules) c.string_form-form.ensures (search rules) c.piece_at-piece.ensures)

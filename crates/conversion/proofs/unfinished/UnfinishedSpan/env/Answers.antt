@@ -1,5 +1,4 @@
 use Rattle.std.proofs.Common.{rules}
-use Rattle.conversion.proofs.SingleLemmas.{front_filled}
 use Rattle.conversion.proofs.OwnLemmas.{env-there, env-put}
 use Rattle.conversion.proofs.unfinished.UnfinishedSpan.env.Goals as goal
 
@@ -7,4 +6,4 @@ pub returns-then-has_meta : goal.returns-then-has_meta
 returns-then-has_meta g c = search (rules, env-there)
 
 pub returns : goal.returns
-returns g c = search (rules, env-put, front_filled)
+returns g c = search (rules, env-put)

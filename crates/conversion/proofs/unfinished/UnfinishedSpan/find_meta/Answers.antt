@@ -8,4 +8,4 @@ use Rattle.conversion.proofs.unfinished.UnfinishedSpan.find_meta.Goals as goal
 pub returns : goal.returns
 returns c =
     let s = c.args.self.now in
-    c.find.ensures ∙ sym (position-map (λ p. bytes_eq (bytes_of p.0) c.args.key.now) (meta_pair s.block.now s.arena.now) (take s.meta_len s.meta.now))
+    c.find_text.ensures ∙ sym (position-map (λ p. bytes_eq (bytes_of p.0) c.args.key.now) (meta_pair s.block.now s.arena.now) (take s.meta_len s.meta.now))

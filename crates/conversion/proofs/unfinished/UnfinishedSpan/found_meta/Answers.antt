@@ -11,5 +11,5 @@ returns-clause-text c = search (rules, found-rows)
 
 pub returns-clause-held : goal.returns-clause-held
 returns-clause-held c =
-    let e : c.first.result ≡ Some c.in_ok-row.row = search rules in
-    held_value _ _ _ _ _ c.first.ensures e c.args.self.now.meta_held
+    let e : c.first_text.result ≡ Some c.in_ok-row.row = search rules in
+    held_value _ _ _ _ _ c.first_text.ensures e c.args.self.now.meta_held

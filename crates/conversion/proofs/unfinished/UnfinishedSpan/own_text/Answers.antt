@@ -1,6 +1,6 @@
 use Rattle.std.proofs.Common.{rules}
-use Rattle.conversion.proofs.SingleLemmas.{front_filled}
+use Rattle.conversion.proofs.SingleLemmas.{absent_text}
 use Rattle.conversion.proofs.unfinished.UnfinishedSpan.own_text.Goals as goal
 
-pub returns : goal.returns
-returns g c = search (rules, front_filled)
+pub returns-then-not-has_attr : goal.returns-then-not-has_attr
+returns-then-not-has_attr g c = search (rules, absent_text)

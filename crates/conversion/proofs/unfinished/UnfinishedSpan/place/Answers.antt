@@ -1,6 +1,8 @@
 use Rattle.std.proofs.Common.{◌+◌, ◌≤◌, length, refl, ap, arith}
 use Rattle.conversion.specs.Spans.{placed}
 use Rattle.conversion.proofs.Held.{piece_stays, same_before, room_stays, reads_back, view_placed, placed_over}
+use Rattle.conversion.proofs.DigestLemmas.{digested_stays}
+use Rattle.conversion.proofs.Held.{meta_stays}
 use Rattle.conversion.proofs.unfinished.UnfinishedSpan.place.Goals as goal
 
 pub returns-then-len-self-clause-step : goal.returns-then-len-self-clause-step
@@ -26,3 +28,8 @@ returns-clause-text c =
 
 pub returns-clause-texts : goal.returns-clause-texts
 returns-clause-texts c p h = let s = c.args.self.now in piece_stays s.block.now s.arena.now _ s.used (same_before s.block.now s.arena.now c.args.text.now _ s.used c.write.ensures) p h
+
+pub invariant_of-self-clause-meta_digests : goal.invariant_of-self-clause-meta_digests
+invariant_of-self-clause-meta_digests c =
+    let s = c.args.self.now in
+    digested_stays _ _ _ (meta_stays s.block.now s.arena.now _ s.used (same_before s.block.now s.arena.now c.args.text.now _ s.used c.write.ensures) _ s.meta_held) s.meta_digests

@@ -5,6 +5,7 @@ use Rattle.conversion.specs.Pieces.{meta_pair, meta_row_end, no_row}
 use Rattle.conversion.specs.Tables.{push_meta}
 use Rattle.conversion.specs.View.{view}
 use Rattle.conversion.proofs.TableLemmas.{push_pairs, push_pairs_full, push_end, set_rows}
+use Rattle.conversion.proofs.DigestLemmas.{digested_push}
 use Rattle.conversion.proofs.unfinished.UnfinishedSpan.push_meta.Goals as goal
 
 pub invariant_of-self-clause-rows : goal.invariant_of-self-clause-rows
@@ -32,3 +33,8 @@ returns-else-n-self c =
       kept = record { block = refl; room = refl; rows = refl; meta_name = refl; arena_name = refl };
       is = ap (λ (m : List (Text × Text)). record (view s) { meta = m }) (push_pairs_full (meta_pair s.block.now s.arena.now) no_row s.meta.now s.meta_len _ s.rows c.if-n-self.false);
     }
+
+pub invariant_of-self-clause-meta_digests : goal.invariant_of-self-clause-meta_digests
+invariant_of-self-clause-meta_digests c =
+    let s = c.args.self.now in
+    digested_push s.block.now s.arena.now s.meta.now s.meta_len _ c.if-n-self.true c.digest_of-digest.ensures s.meta_digests

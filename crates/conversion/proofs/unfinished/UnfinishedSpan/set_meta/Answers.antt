@@ -5,6 +5,7 @@ use Rattle.conversion.specs.Pieces.{meta_pair, meta_row_end, no_row}
 use Rattle.conversion.specs.Tables.{set_meta}
 use Rattle.conversion.specs.View.{view}
 use Rattle.conversion.proofs.TableLemmas.{set_pairs, set_pairs_past, set_end, set_rows}
+use Rattle.conversion.proofs.DigestLemmas.{digested_set}
 use Rattle.conversion.proofs.unfinished.UnfinishedSpan.set_meta.Goals as goal
 
 pub invariant_of-self-clause-rows : goal.invariant_of-self-clause-rows
@@ -33,3 +34,8 @@ returns-else-i-self c =
       kept = record { block = refl; room = refl; rows = refl; meta_name = refl; arena_name = refl };
       is = ap (λ (m : List (Text × Text)). record (view s) { meta = m }) (set_pairs_past (meta_pair s.block.now s.arena.now) no_row s.meta.now s.meta_len c.args.i _ c.if-i-self.false);
     }
+
+pub invariant_of-self-clause-meta_digests : goal.invariant_of-self-clause-meta_digests
+invariant_of-self-clause-meta_digests c =
+    let s = c.args.self.now in
+    digested_set s.block.now s.arena.now s.meta.now s.meta_len c.args.i _ (λ l. (refl, refl)) s.meta_digests

@@ -6,9 +6,9 @@ use Rattle.conversion.proofs.unfinished.UnfinishedSpan.span_row.Goals as goal
 pub returns-then-starts : goal.returns-then-starts
 returns-then-starts c = search (rules, span-own)
 
-pub returns-in_default : goal.returns-in_default
-returns-in_default c = search (rules, span-text)
+pub returns-in-None : goal.returns-in-None
+returns-in-None c = search (rules, span-text)
 
-pub returns : goal.returns
+pub returns-in-Some : goal.returns-in-Some
 unfolding span_row
-returns c = search (rules, span-number)
+returns-in-Some c = search (rules, span-number)

@@ -1,4 +1,4 @@
-use Rattle.std.proofs.Common.{◌≡◌, ◌<◌, ◌≤◌, sym, ap, ◌∙◌, arith}
+use Rattle.std.proofs.Common.{◌<◌, ◌≤◌, sym, ap, ◌∙◌, arith}
 use Rattle.names.proofs.Lasts.{lasts_none}
 use Rattle.blocks.specs.Layout.{rows_in}
 use Rattle.blocks.specs.Facts.{fact_of}

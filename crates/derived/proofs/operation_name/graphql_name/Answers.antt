@@ -1,6 +1,0 @@
-use Rattle.std.proofs.Common.{rules}
-use Rattle.derived.proofs.Names.{given}
-use Rattle.derived.proofs.operation_name.graphql_name.Goals as goal
-
-pub returns : goal.returns
-returns g c = search (rules, given)

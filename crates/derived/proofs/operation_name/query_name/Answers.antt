@@ -1,6 +1,0 @@
-use Rattle.std.proofs.Common.{◌++◌, codes}
-use Rattle.derived.proofs.Names.{offered}
-use Rattle.derived.proofs.operation_name.query_name.Goals as goal
-
-pub returns : goal.returns
-returns g c = offered (λ s. s ++ codes ".query") _ _ _ _ _ c.lower_first-system.ensures c.if-is_empty.ensures c.compose.ensures

@@ -1,6 +1,0 @@
-use Rattle.std.proofs.Common.{rules}
-use Rattle.readers.proofs.Fronts.{portion-padded}
-use Rattle.derived.proofs.resource_name.res_span_text.Goals as goal
-
-pub returns : goal.returns
-returns g c = search (rules, portion-padded)
