@@ -10,7 +10,7 @@ use Rattle.conversion.specs.Spans.{Span}
 use Rattle.conversion.specs.Steps.{steps}
 use Rattle.conversion.specs.View.{shown}
 use Rattle.conversion.specs.Answers.{answer}
-use Rattle.conversion_law.specs.Agreement.{Agree, AgreeWholly}
+use Rattle.conversion_law.specs.Agreement.{AgreeClosely, AgreeWholly}
 use Rattle.conversion_law.specs.Told.{Told, block_of, held_by, read, BlocksHold}
 use Rattle.conversion_law.specs.StepsAgree.{AnyOrder, ConvertsAlike}
 use Rattle.conversion_law.specs.LaterDiffers.{SameButThree, PilesDiffer}
@@ -23,11 +23,11 @@ abbrev span_in : Span → Result Span ℕ → Span
 span_in d (Ok s) = s
 span_in d (Err e) = d
 
-record Accepted (n : ℕ) (s d : Span) : Type 0 where
-  is : d ≡ s
-  room : 398 ≤ n
+pub record Accepted (n : ℕ) (s d : Span) : Type 0 where
+  pub is : d ≡ s
+  pub room : 398 ≤ n
 
-accepted : (n w : ℕ) (s d : Span) → Ok d ≡ answer n w s → Accepted n s d
+pub accepted : (n w : ℕ) (s d : Span) → Ok d ≡ answer n w s → Accepted n s d
 accepted n w s d = by (nat_lt n 398) (nat_lt 65536 w) (nat_lt w (length s.arena)) refl
   where
     by : (a b c : Bool) → nat_lt n 398 ≡ a → ◌≡◌ {A = Result Span ℕ} (Ok d) (cond a (Err 30) (cond b (Err 31) (cond c (Err 32) (Ok s)))) → Accepted n s d
@@ -62,7 +62,7 @@ both_accepted law full P s t js ls h n k w v (Ok d) (Ok e) a b =
     subst (λ o. P o (shown e)) (sym x) (subst (P (steps n (held_by s) (read js (held_by s)))) (sym (y ∙ z)) (h n i))
 
 pub alike_lem : BlocksHold → ConvertsAlike → NeverFull → ConvertsTheSameAlike
-alike_lem law agree full s t said ls = both_accepted law full Agree s t ls ls (λ n room. agree n room s t said ls)
+alike_lem law agree full s t said ls = both_accepted law full AgreeClosely s t ls ls (λ n room. agree n room s t said ls)
 
 pub ordered_lem : BlocksHold → AnyOrder → NeverFull → ConvertsInAnyOrder
 ordered_lem law agree full s t same left right ls = both_accepted law full AgreeWholly s t ls ls (λ n room. agree n room s t same left right ls)

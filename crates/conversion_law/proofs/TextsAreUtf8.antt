@@ -1,14 +1,14 @@
 -- Of a lawful block, every text of the span is UTF-8.
-use Rattle.std.proofs.Common.{ℕ, cond, nat_lt, List, length, Result, Ok, Err, sym, subst}
-use Rattle.std.proofs.lemmas.Bool.{cond_both}
+use Rattle.std.proofs.Common.{ℕ, List, Ok, Err, sym, subst}
 use Rattle.std.proofs.lemmas.List.Elements.{All-from_recursion}
 use Rattle.blocks.specs.Facts.{facts}
 use Rattle.blocks.specs.Lawful.{Lawful}
 use Rattle.conversion.specs.Spans.{Text, Span}
 use Rattle.conversion.specs.Steps.{steps}
-use Rattle.conversion.specs.Answers.{answer}
+use Rattle.conversion.specs.View.{shown}
 use Rattle.conversion_law.specs.TextsAreUtf8.{Utf8Text, Utf8Entry, Utf8Link, Utf8Event, TextsAreUtf8, MakesUtf8, SpanIsUtf8, AcceptedIsUtf8}
 use Rattle.conversion_law.specs.Told.{read}
+use Rattle.conversion_law.proofs.Answered.{accepted}
 use Rattle.conversion_law.proofs.LawfulRows.{sound-rows}
 use Rattle.conversion_law.proofs.Utf8Derived.{derives_utf8_lem}
 use Rattle.conversion_law.proofs.Utf8Reading.{reads_utf8_lem}
@@ -38,18 +38,6 @@ makes_utf8_lem m w n r g = in-span _ (steps-utf8 n (facts m) (facts-utf8 m w) r 
 pub span_is_utf8_lem : SpanIsUtf8
 span_is_utf8_lem m w n ls = makes_utf8_lem m w n (read ls (facts m)) (reads_utf8_lem m w ls)
 
--- what is accepted is what the steps make
-abbrev IfMade : Result Span ℕ → Type 0
-IfMade (Ok s) = TextsAreUtf8 s
-IfMade (Err e) = Unit {0}
-
-made : (n w : ℕ) (s : Span) → TextsAreUtf8 s → IfMade (answer n w s)
-made n w s h =
-    let third : Result Span ℕ = cond (nat_lt w (length s.arena)) (Err 32) (Ok s) in
-    let second : Result Span ℕ = cond (nat_lt 65536 w) (Err 31) third in
-    cond_both (nat_lt n 398) (Err 30) second IfMade (λ t. tt)
-    (λ t. cond_both (nat_lt 65536 w) (Err 31) third IfMade (λ t. tt) (λ t. cond_both (nat_lt w (length s.arena)) (Err 32) (Ok s) IfMade (λ t. tt) (λ t. h)))
-
 pub accepted_is_utf8_lem : AcceptedIsUtf8
 accepted_is_utf8_lem m l r g n w (Err e) a = tt
-accepted_is_utf8_lem m l r g n w (Ok d) a = subst IfMade (sym a.answered) (made n w (steps n (facts m) r) (makes_utf8_lem m l n r g))
+accepted_is_utf8_lem m l r g n w (Ok d) a = subst TextsAreUtf8 (sym (accepted n w (steps n (facts m) r) (shown d) a.answered).is) (makes_utf8_lem m l n r g)

@@ -11,7 +11,7 @@ use Rattle.conversion.specs.View.{shown}
 use Rattle.conversion.specs.Converts.{Converts}
 use Rattle.conversion_law.specs.SameFacts.{SameInAnyOrder}
 use Rattle.conversion_law.specs.Landing.{LandsApart}
-use Rattle.conversion_law.specs.Agreement.{SameTexts, Agree, AgreeWholly}
+use Rattle.conversion_law.specs.Agreement.{SameTexts, AgreeClosely, AgreeWholly}
 use Rattle.conversion_law.specs.SameDerived.{SameDerived}
 use Rattle.conversion_law.specs.LaterDiffers.{SameButThree}
 use Rattle.conversion_law.specs.StepsAgree.{SaidAlike}
@@ -31,7 +31,7 @@ ConvertsWhatIsHeld =
 abbrev pub ConvertsTheSameAlike : Type 0
 ConvertsTheSameAlike =
     (s t : Told) → SaidAlike (held_by s) (held_by t) → (ls : List Layer) (n k w v : ℕ) (p q : Result DdSpan ConvertRefused)
-    → Answers s ls n w p → Answers t ls k v q → IfOk p (λ d. IfOk q (λ e. Agree (shown d) (shown e)))
+    → Answers s ls n w p → Answers t ls k v q → IfOk p (λ d. IfOk q (λ e. AgreeClosely (shown d) (shown e)))
 
 -- where the order of attributes alone differs they agree with no name left out, and pairs may be used doubly
 abbrev pub ConvertsInAnyOrder : Type 0

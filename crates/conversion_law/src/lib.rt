@@ -9,7 +9,7 @@ ghost use Rattle.conversion_law.specs.StepsAgree.{AnyOrder, ConvertsAlike};
 ghost use Rattle.conversion_law.specs.OnceEach.{OnceEach};
 ghost use Rattle.conversion_law.specs.LaterDiffers.{LaterDiffers, PilesDiffer, SameResource};
 ghost use Rattle.conversion_law.specs.NeverFull.{NeverFull};
-ghost use Rattle.conversion_law.specs.IsUnique.{IsUnique};
+ghost use Rattle.conversion_law.specs.IsUnique.{IsUnique, AcceptedIsUnique};
 ghost use Rattle.conversion_law.specs.NeverClipped.{NeverClipped};
 ghost use Rattle.conversion_law.specs.TextsAreUtf8.{AcceptedIsUtf8, DerivesUtf8, MakesUtf8, ReadsUtf8, SpanIsUtf8};
 
@@ -85,9 +85,11 @@ pub fn never_full()
     ensures { NeverFull }
 {}
 
-/// No key stands twice in meta, in metrics, or among the attributes of a link or an event.
+/// No key stands twice in meta, in metrics, or among the attributes of a link or an event, in what the steps make and in every
+/// accepted span.
 pub fn is_unique()
-    ensures { IsUnique }
+    ensures made { IsUnique }
+    ensures accepted { AcceptedIsUnique }
 {}
 
 /// All worked examples, and two spans that differ and meet what the law asks.

@@ -1,0 +1,6 @@
+mod Counts
+mod ByKey
+mod Values
+mod Elements
+mod Places
+mod Agrees
