@@ -40,18 +40,21 @@ fn print_fields<A: OtelSpan, B: OtelSpan>(rt: &HostRuntime, a: &A, b: &B) -> any
 
 fn print_span(rt: &HostRuntime, span: &SdkSpan<'_>) -> anyhow::Result<()> {
     let bare = SpanExtractArgs::new(span);
-    let later = LaterEdition::new(SpanExtractArgs::new(span));
+    let later = LaterEdition::new(bare);
     print_keys(rt, &bare)?;
     print_fields(rt, &bare, &later)
 }
 
 /// Reads the span of a line; nothing for an empty line or a comment.
 fn read_line(rt: &HostRuntime, line: Line<'_>) -> anyhow::Result<()> {
+    let line = Line {
+        text: line.text.trim_ascii(),
+        ..line
+    };
     if line.says_nothing() {
         return Ok(());
     }
-    let text = line.text.trim_ascii();
-    let number = line.number;
+    let Line { number, text } = line;
     match read_bytes(rt.alloc(), text) {
         Ok(block) => match open(block.as_slice()) {
             Ok(span) => {

@@ -27,7 +27,7 @@ use values::value::Value;
 
 /// The block of a span, with the number of the last row of each known key, of the span's attributes and of
 /// the resource's. It holds the block's bytes and not the span, which a conversion takes.
-#[derive(Drop)]
+#[derive(Clone, Copy)]
 pub struct SpanExtractArgs<'a> {
     block: &'a [u8],
     span_attrs: AttributeIndices,
@@ -136,7 +136,8 @@ fn note_row(
 impl<'a> SpanExtractArgs<'a> {
     /// The reader of the span in a block.
     fn of_block(block: &'a [u8]) -> SpanExtractArgs<'a>
-        ensures { reading_by result.block.now result.span_attrs.places result.res_attrs.places ≡ reading_of (facts block.now) }
+        ensures block { result.block.now ≡ block.now }
+        ensures reading { reading_by result.block.now result.span_attrs.places result.res_attrs.places ≡ reading_of (facts block.now) }
     {
         let mut span_attrs = AttributeIndices::default();
         let mut res_attrs = AttributeIndices::default();
@@ -155,7 +156,8 @@ impl<'a> SpanExtractArgs<'a> {
 
     /// The reader of a span: its reading is that of the span's facts.
     pub fn new(span: &SdkSpan<'a>) -> SpanExtractArgs<'a>
-        ensures { reading_by result.block.now result.span_attrs.places result.res_attrs.places ≡ reading_of (facts span.now.block.now) }
+        ensures block { result.block.now ≡ span.now.block.now }
+        ensures reading { reading_by result.block.now result.span_attrs.places result.res_attrs.places ≡ reading_of (facts span.now.block.now) }
     {
         SpanExtractArgs::of_block(span.block())
     }

@@ -1,4 +1,4 @@
-use Rattle.std.proofs.Common.{◌<◌, ◌≤◌, sym, ap, ◌∙◌, arith}
+use Rattle.std.proofs.Common.{◌<◌, ◌≤◌, sym, refl, ap, ◌∙◌, arith}
 use Rattle.names.proofs.Lasts.{lasts_none}
 use Rattle.blocks.specs.Layout.{rows_in}
 use Rattle.blocks.specs.Facts.{fact_of}
@@ -25,4 +25,7 @@ pub returns : goal.returns
 returns c =
     let m = c.args.block.now in
     let le : rows_in m ≤ c.loop-i.i = omega (arith, c.loop-i-test.false, c.row_count-i-end.ensures) in
-    read_by m _ _ (all-rows 0 m c.loop-i.i _ le c.loop-i.invariant.0) (all-rows 1 m c.loop-i.i _ le c.loop-i.invariant.1)
+    record {
+      block = refl;
+      reading = read_by m _ _ (all-rows 0 m c.loop-i.i _ le c.loop-i.invariant.0) (all-rows 1 m c.loop-i.i _ le c.loop-i.invariant.1);
+    }
