@@ -45,6 +45,6 @@ pub mod Utf8Puts
 pub mod Utf8Steps
 pub mod TextsAreUtf8
 -- examples
-pub mod ErrorOkError
 pub mod PremisesMet
 pub mod Examples
+pub mod ReadExamples

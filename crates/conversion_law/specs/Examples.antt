@@ -1,6 +1,5 @@
 -- Examples, proved of the definitions: all worked examples of conversions, of values and of drafts stand here.
-use Rattle.std.specs.Prelude.{◌≡◌, ℕ, List, [], ◌∷◌, ℤ, pos, None, Some, codes, FitsSigned}
-use Rattle.std.specs.Int.{w64}
+use Rattle.std.specs.Prelude.{◌≡◌, ℕ, List, [], ◌∷◌, pos, Some, codes}
 use Rattle.values.specs.declared.kinds.ScalarKind.TheVariants.{String}
 use Rattle.values.specs.Atoms.{Datum, whole, words, single, several}
 use Rattle.values.specs.Kinds.{kind_number}
@@ -11,10 +10,8 @@ use Rattle.blocks.specs.declared.span_kind.SpanKind.{SpanKind}
 use Rattle.blocks.specs.declared.span_kind.SpanKind.TheVariants.{Internal, Server, Client}
 use Rattle.blocks.specs.declared.span_kind.StatusCode.{StatusCode}
 use Rattle.blocks.specs.declared.span_kind.StatusCode.TheVariants.{Unset, Ok}
-use Rattle.blocks.specs.Facts.{RowFact, Facts, facts}
-use Rattle.drafts.specs.Calls.{Opening, Status, SizedOpening, SizedCalls}
-use Rattle.drafts.specs.Memory.{start_fault}
-use Rattle.draft_law.specs.Law.{built}
+use Rattle.blocks.specs.Facts.{RowFact, Facts}
+use Rattle.draft_law.specs.Law.{ErrorOkErrorIsOk}
 use Rattle.layer.specs.Later.{later_edition}
 use Rattle.span_args.specs.ReadingOf.{reading_of}
 use Rattle.conversion.specs.Spans.{bytes_of, Span}
@@ -79,12 +76,6 @@ microsoft = with [] Client Unset (says_text (codes "db.system.name") (codes "mic
 
 abbrev pub a_and_b : Datum
 a_and_b = several String (words (codes "a") ∷ words (codes "b") ∷ [])
-
--- Error, then Ok, then Error: the ended span is Ok and has no description
-abbrev pub ErrorOkErrorIsOk : Type 0
-ErrorOkErrorIsOk =
-    (n : ℕ) (o : Opening) → SizedOpening o → start_fault n o ≡ None → (a b c : List ℕ) → SizedCalls (Status 2 a ∷ Status 1 b ∷ Status 2 c ∷ []) → (end : ℤ) → FitsSigned w64 end
-    → ((facts (built n o (Status 2 a ∷ Status 1 b ∷ Status 2 c ∷ []) end)).status ≡ Ok) × ((facts (built n o (Status 2 a ∷ Status 1 b ∷ Status 2 c ∷ []) end)).description ≡ [])
 
 pub record WorkedExamples : Type 0 where
   -- a client of PostgreSQL: the name goes by its lower case, the type by its exact name

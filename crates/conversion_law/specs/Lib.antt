@@ -14,5 +14,6 @@ pub mod IsUnique
 pub mod NeverClipped
 pub mod TextsAreUtf8
 pub mod Examples
+pub mod ReadExamples
 -- for proofs alone
 pub mod Given

@@ -2,6 +2,7 @@
 #![tactic(auto)]
 
 ghost use Rattle.conversion_law.specs.Examples.{WorkedExamples, PremisesMet};
+ghost use Rattle.conversion_law.specs.ReadExamples.{ReadExamples};
 ghost use Rattle.conversion_law.specs.FewRows.{AboveCounts, FewRows};
 ghost use Rattle.conversion_law.specs.Law.{ConvertsWhatIsHeld, ConvertsTheSameAlike, ConvertsInAnyOrder, LaterEditionDiffers, ReadsAlike};
 ghost use Rattle.conversion_law.specs.Told.{BlocksHold};
@@ -92,12 +93,13 @@ pub fn is_unique()
     ensures accepted { AcceptedIsUnique }
 {}
 
-/// All worked examples, and two spans that differ and meet what the law asks.
+/// All worked examples, of conversions and of what readers derive from a reading, and two spans that differ and meet what the
+/// law asks.
 pub fn worked_examples()
     ensures examples { WorkedExamples }
+    ensures readings { ReadExamples }
     ensures premises { PremisesMet }
 {
-    draft_law::holds_what_was_said();
     draft_law::ok_is_final();
 }
 

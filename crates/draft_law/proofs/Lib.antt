@@ -12,3 +12,4 @@ mod Past
 mod Begun
 mod Closed
 mod Final
+mod ErrorOkError

@@ -1,11 +1,11 @@
 -- The law of drafts.
-use Rattle.std.specs.Prelude.{◌≡◌, ℕ, List, ℤ, None, FitsSigned}
+use Rattle.std.specs.Prelude.{◌≡◌, ℕ, List, [], ◌∷◌, ℤ, None, FitsSigned}
 use Rattle.std.specs.Int.{w64}
 use Rattle.blocks.specs.Facts.{facts}
 use Rattle.blocks.specs.declared.span_kind.StatusCode.TheVariants.{Ok}
 use Rattle.blocks.specs.Faults.{block_fault}
 use Rattle.blocks.specs.Lawful.{Lawful}
-use Rattle.drafts.specs.Calls.{Opening, Call, SizedOpening, SizedCalls}
+use Rattle.drafts.specs.Calls.{Opening, Call, Status, SizedOpening, SizedCalls}
 use Rattle.drafts.specs.Refused.{Answer}
 use Rattle.drafts.specs.Held.{Outcome, passed, stated, held}
 use Rattle.drafts.specs.Writes.{started, ended}
@@ -30,3 +30,9 @@ HoldsWhatWasSaid =
 -- once Ok is held, no call changes status or description, whatever it is answered
 abbrev pub OkIsFinal : Type 0
 OkIsFinal = (o : Outcome) → o.code ≡ Ok → (cs : List Call) (ns : List Answer) → passed stated o cs ns ≡ o
+
+-- Error, then Ok, then Error: the ended span is Ok and has no description
+abbrev pub ErrorOkErrorIsOk : Type 0
+ErrorOkErrorIsOk =
+    (n : ℕ) (o : Opening) → SizedOpening o → start_fault n o ≡ None → (a b c : List ℕ) → SizedCalls (Status 2 a ∷ Status 1 b ∷ Status 2 c ∷ []) → (end : ℤ) → FitsSigned w64 end
+    → ((facts (built n o (Status 2 a ∷ Status 1 b ∷ Status 2 c ∷ []) end)).status ≡ Ok) × ((facts (built n o (Status 2 a ∷ Status 1 b ∷ Status 2 c ∷ []) end)).description ≡ [])

@@ -1,7 +1,7 @@
 //! The law of drafts.
 #![tactic(auto)]
 
-ghost use Rattle.draft_law.specs.Law.{HoldsWhatWasSaid, OkIsFinal};
+ghost use Rattle.draft_law.specs.Law.{HoldsWhatWasSaid, OkIsFinal, ErrorOkErrorIsOk};
 
 /// What a draft holds when it has ended is what was said to it: for every start that is not refused, every
 /// list of calls, refused ones among them, and every end time.
@@ -11,5 +11,6 @@ pub fn holds_what_was_said()
 
 /// A span that is Ok stays so, with no description.
 pub fn ok_is_final()
-    ensures { OkIsFinal }
+    ensures law { OkIsFinal }
+    ensures example { ErrorOkErrorIsOk }
 {}

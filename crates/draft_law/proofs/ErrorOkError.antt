@@ -8,8 +8,7 @@ use Rattle.drafts.specs.Refused.{accepted}
 use Rattle.drafts.specs.Held.{Outcome, stated, unsaid, passed}
 use Rattle.drafts.specs.Memory.{status_stays, applied, answered, answer, after, answers}
 use Rattle.drafts.specs.Writes.{started}
-use Rattle.draft_law.specs.Law.{HoldsWhatWasSaid, OkIsFinal}
-use Rattle.conversion_law.specs.Examples.{ErrorOkErrorIsOk}
+use Rattle.draft_law.specs.Law.{HoldsWhatWasSaid, OkIsFinal, ErrorOkErrorIsOk}
 
 -- Ok is never refused, since it has no text
 never : (t : Bool) → cond {A = Option Refusal} t None None ≡ None
