@@ -8,15 +8,18 @@ use crate::db_types::check_db_type;
 use crate::texts::{fill, given_text};
 use blocks::span_kind::SpanKind;
 use names::attribute_keys::*;
-use readers::first_texts::{find_res_text, res_text};
+use readers::first_texts::{find_res_text, get_res_attributes, res_text};
 use readers::otel_util::{OtelSpan, find_res_span_text, res_span_text};
 use readers::texts::Text;
 
 /// The service of a span whose span and resource name none.
 pub const DEFAULT_OTLP_SERVICE_NAME: &[u8] = b"otlpresourcenoservicename";
 
+/// Where a resource says its environment, the later name first.
+const DEPLOYMENTS: [AttributeKey; 2] = [DEPLOYMENT_ENVIRONMENT_NAME, DEPLOYMENT_ENVIRONMENT];
+
 /// A client's type: by its database, if it has one.
-fn client_type<'t, S: OtelSpan>(span: &S, memory: &'t mut [u8; 4096]) -> Text<'t>
+fn client_type<S: OtelSpan>(span: &S, memory: &mut [u8; 4096]) -> Text<'static>
     ensures { result.bytes.now ≡ type_by_kind (S.OtelSpan.reading span.now) Client }
 {
     let system = res_span_text(span, &[DB_SYSTEM_NAME, DB_SYSTEM], memory);
@@ -28,7 +31,7 @@ fn client_type<'t, S: OtelSpan>(span: &S, memory: &'t mut [u8; 4096]) -> Text<'t
 }
 
 /// The type by the kind of the span.
-fn type_by_kind<'t, S: OtelSpan>(span: &S, memory: &'t mut [u8; 4096]) -> Text<'t>
+fn type_by_kind<S: OtelSpan>(span: &S, memory: &mut [u8; 4096]) -> Text<'static>
     ensures { result.bytes.now ≡ type_by_kind (S.OtelSpan.reading span.now) (S.OtelSpan.reading span.now).kind }
 {
     match span.span_kind() {
@@ -52,8 +55,13 @@ pub fn span_type_text<'t, S: OtelSpan>(span: &S, memory: &'t mut [u8; 4096]) -> 
 pub fn get_otel_span_type<S: OtelSpan>(span: &S, out: &mut [u8; 4096]) -> usize
     ensures { Filled 4096 (span_type (S.OtelSpan.reading span.now)) result out.new }
 {
-    let mut memory = [0u8; 4096];
-    fill(out, span_type_text(span, &mut memory))
+    match find_res_span_text(span, &[SPAN_TYPE], out) {
+        Some(n) if n > 0 => n,
+        _ => {
+            let text = type_by_kind(span, out);
+            fill(out, text)
+        }
+    }
 }
 
 /// The environment: Datadog's own attribute, or else the resource's.
@@ -62,11 +70,7 @@ pub fn environment_text<'t, S: OtelSpan>(span: &S, memory: &'t mut [u8; 4096]) -
 {
     match find_res_span_text(span, &[DATADOG_ENV], memory) {
         Some(n) if n > 0 => Text::front(memory, n),
-        _ => res_text(
-            span,
-            &[DEPLOYMENT_ENVIRONMENT_NAME, DEPLOYMENT_ENVIRONMENT],
-            memory,
-        ),
+        _ => res_text(span, &DEPLOYMENTS, memory),
     }
 }
 
@@ -74,8 +78,10 @@ pub fn environment_text<'t, S: OtelSpan>(span: &S, memory: &'t mut [u8; 4096]) -
 pub fn get_otel_env<S: OtelSpan>(span: &S, out: &mut [u8; 4096]) -> usize
     ensures { Filled 4096 (environment (S.OtelSpan.reading span.now)) result out.new }
 {
-    let mut memory = [0u8; 4096];
-    fill(out, environment_text(span, &mut memory))
+    match find_res_span_text(span, &[DATADOG_ENV], out) {
+        Some(n) if n > 0 => n,
+        _ => get_res_attributes(span, &DEPLOYMENTS, out),
+    }
 }
 
 /// The service of the resource, or else the default.
@@ -104,8 +110,16 @@ pub fn service_text<'t, S: OtelSpan>(span: &S, memory: &'t mut [u8; 4096]) -> Te
 pub fn get_otel_service<S: OtelSpan>(span: &S, out: &mut [u8; 4096]) -> usize
     ensures { Filled 4096 (service_name (S.OtelSpan.reading span.now)) result out.new }
 {
-    let mut memory = [0u8; 4096];
-    fill(out, service_text(span, &mut memory))
+    if let Some(n) = given_text(span, SERVICE_NAME, out) {
+        return n;
+    }
+    if let Some(n) = find_res_text(span, &[SERVICE_NAME], out) {
+        return n;
+    }
+    let text = Text {
+        bytes: DEFAULT_OTLP_SERVICE_NAME,
+    };
+    fill(out, text)
 }
 
 /// A number as 32 bits without a sign; none where it does not fit them.
