@@ -36,11 +36,14 @@ fn print_attribute(
 
 /// Prints what a line says, nothing for an empty line or a comment.
 fn print_line(rt: &HostRuntime, line: Line<'_>, tally: &mut Tally) -> io::Result<()> {
+    let line = Line {
+        text: line.text.trim_ascii_start(),
+        ..line
+    };
     if line.says_nothing() {
         return Ok(());
     }
-    let text = line.text.trim_ascii_start();
-    let line = line.number;
+    let Line { number: line, text } = line;
     match Attribute::parse(rt.alloc(), text) {
         Ok(attribute) => print_attribute(rt, line, &attribute, tally),
         Err(fault) => {

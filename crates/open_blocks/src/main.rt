@@ -37,11 +37,14 @@ fn open_block(
 
 /// Opens the block of a line; nothing for an empty line or a comment.
 fn open_line(rt: &HostRuntime, mode: Mode, line: Line<'_>, tally: &mut Tally) -> io::Result<()> {
+    let line = Line {
+        text: line.text.trim_ascii(),
+        ..line
+    };
     if line.says_nothing() {
         return Ok(());
     }
-    let text = line.text.trim_ascii();
-    let line = line.number;
+    let Line { number: line, text } = line;
     match read_bytes(rt.alloc(), text) {
         Ok(block) => open_block(rt, mode, Origin::Line(line), block.as_slice(), tally)?,
         Err(fault) => {
@@ -54,28 +57,28 @@ fn open_line(rt: &HostRuntime, mode: Mode, line: Line<'_>, tally: &mut Tally) ->
     Ok(())
 }
 
-/// Opens the block of a file, or that of each line of standard input.
+/// Opens the block of a file, or that of each line of standard input. A file that cannot be read is told, and the rest goes on;
+/// standard input that cannot be read ends the program.
 fn open_source(
     rt: &HostRuntime,
     mode: Mode,
     source: Source<'_>,
     tally: &mut Tally,
 ) -> io::Result<()> {
-    match source.read(rt) {
-        Ok(bytes) => match source {
-            Source::File(name) => {
-                open_block(rt, mode, Origin::File(name), bytes.as_slice(), tally)?;
+    match source {
+        Source::StandardInput => {
+            let input = source.read(rt)?;
+            for line in Lines::new(input.as_slice()) {
+                open_line(rt, mode, line, tally)?;
             }
-            Source::StandardInput => {
-                for line in Lines::new(bytes.as_slice()) {
-                    open_line(rt, mode, line, tally)?;
-                }
-            }
+            Ok(())
+        }
+        Source::File(name) => match source.read(rt) {
+            Ok(block) => open_block(rt, mode, Origin::File(name), block.as_slice(), tally),
+            // Told with `count` as well, since the summary counts lines alone.
+            Err(error) => println!(rt; "{source} not read: {error}\n"),
         },
-        // Told with `count` as well, since the summary counts lines alone.
-        Err(error) => println!(rt; "{source} not read: {error}\n")?,
     }
-    Ok(())
 }
 
 fn run(rt: &HostRuntime) -> anyhow::Result<()> {
