@@ -12,4 +12,4 @@ returns c =
     let found = position_from_yields_List test _ _ _ c.position.ensures.ran (YieldsList-from_slice c.args.table.now cc) (λ x b q h. search (rules, tests)) in
     let counted = position_from-zero test c.args.table.now in
     let looked = looked_from 0 c.args.key.now c.args.table.now in
-    cc
+    search rules
