@@ -36,6 +36,26 @@ fn full_lists(rt: HostRuntime) -> Result<(), Fail> {
     Ok(())
 }
 
+// 128 attributes of the span, another that is refused, and behind them as many of the resource: each list is counted by itself.
+#[test]
+fn full_list(rt: HostRuntime) -> Result<(), Fail> {
+    let mut v = vec![in rt.alloc(); 7u8; 12000]?;
+    let m = &mut v[..];
+    let Ok(draft) = Draft::start(m, &start_of(300)) else {
+        assert!(rt; false);
+        return Ok(());
+    };
+    let mut draft = draft;
+    let last = fill_list(&mut draft, 0, 128);
+    let more = fill_list(&mut draft, 0, 129);
+    let again = answer_number(draft.set(0, b"aa", 3, b"w"));
+    let other = fill_list(&mut draft, 1, 129);
+    let span = draft.end(20);
+    assert_eq!(rt; [last, more, again, other], [0, 22, 0, 22]);
+    assert_eq!(rt; (span.dropped_attributes(), span.row_count()), (1, 256));
+    Ok(())
+}
+
 /// Adds an event, or a link where its attributes are meant.
 fn add_owner(draft: &mut Draft<'_>, list: u8) {
     let _ = match list {

@@ -72,8 +72,12 @@ fn events(rt: HostRuntime) {
             number(event(text(255))),
             number(event(text(256))),
             number(event(b"\xff")),
+            number(Call::Event {
+                title: text(255),
+                time: -1,
+            }),
         ],
-        [0, 0, 4, 5]
+        [0, 0, 4, 5, 0]
     );
 }
 
