@@ -56,6 +56,27 @@ fn full_list(rt: HostRuntime) -> Result<(), Fail> {
     Ok(())
 }
 
+// Each event has 128 attributes of its own; a 129th is refused and not counted.
+#[test]
+fn full_owner(rt: HostRuntime) -> Result<(), Fail> {
+    let mut v = vec![in rt.alloc(); 7u8; 12000]?;
+    let m = &mut v[..];
+    let Ok(draft) = Draft::start(m, &start_of(300)) else {
+        assert!(rt; false);
+        return Ok(());
+    };
+    let mut draft = draft;
+    let _ = draft.event(b"first", 11);
+    let last = fill_list(&mut draft, 4, 128);
+    let more = fill_list(&mut draft, 4, 129);
+    let _ = draft.event(b"second", 12);
+    let next = fill_list(&mut draft, 4, 128);
+    let span = draft.end(20);
+    assert_eq!(rt; [last, more, next], [0, 22, 0]);
+    assert_eq!(rt; (span.dropped_attributes(), span.row_count()), (0, 258));
+    Ok(())
+}
+
 /// Adds an event, or a link where its attributes are meant.
 fn add_owner(draft: &mut Draft<'_>, list: u8) {
     let _ = match list {

@@ -187,3 +187,29 @@ fn refused_calls(rt: HostRuntime) {
     assert_eq!(rt; put_span(&mut with, &between, &behind), 26);
     assert!(rt; with == without);
 }
+
+// A refused start hands the memory back as it was, and a discarded draft leaves zeros.
+#[test]
+fn memory_back(rt: HostRuntime) {
+    let mut m = [7u8; 119];
+    assert_eq!(rt;
+        [start_number(&mut m, &start_of(0)), m[0], m[118]],
+        [12, 7, 7]
+    );
+    let mut n = [7u8; 130];
+    assert_eq!(rt;
+        [
+            start_number(
+                &mut n,
+                &Start {
+                    name: b"abc",
+                    ..start_of(0)
+                },
+            ),
+            n[10],
+            n[120],
+            n[129],
+        ],
+        [0, 0, 0, 0]
+    );
+}
